@@ -1,0 +1,4 @@
+-- What every layer's definitions share: tests, lists, and the refusals in their order.
+pub mod Bools
+pub mod Lists
+pub mod Refusals

@@ -1,0 +1,84 @@
+-- What turns a call away. A call's tests stand in the order of document 01's line 'Order', and the first that fails gives the number.
+-- Assumes nothing.
+use Prim.Native.Nat.{ℕ}
+use mathlib.Core.Path.{_≡_, refl, sym}
+use mathlib.Core.Logic.{_⊎_, inl, inr}
+use mathlib.Core.Bool.{Bool, true, false, cond}
+use mathlib.Core.Option.{Option, none, some, Option·some-ne-none}
+use mathlib.Core.List.{List, [], _∷_, _++_}
+use Rattle.basics.specs.Bools.{which}
+
+-- a test with document 01's number: it fails where the call is to be turned away
+pub record Test : Type 0 where
+  pub number : ℕ
+  pub fails : Bool
+
+abbrev pub refuse : ℕ → Bool → Test
+refuse n b = record { number = n; fails = b }
+
+-- the number of the first test that fails
+unfoldable pub fault : List Test → Option ℕ
+fault [] = none
+fault (t ∷ ts) = let rest = fault ts in cond (t .fails) (some (t .number)) rest
+
+-- 0 where no test fails, as the C interface has it
+unfoldable pub code : Option ℕ → ℕ
+code none = 0
+code (some n) = n
+
+-- What a call answers: document 01's number, or its value. Each enum of the code has a definition, by cases, into this type.
+pub data Answer (A : Type 0) : Type 0 where
+  refused : ℕ → Answer A
+  success : A → Answer A
+
+-- the value, where no test failed
+unfoldable pub answer : {A : Type 0} → Option ℕ → A → Answer A
+answer none a = success a
+answer (some n) a = refused n
+
+-- ---- laws
+
+abbrev pub Passed : List Test → Type 0
+Passed [] = Unit {0}
+Passed (t ∷ ts) = (t .fails ≡ false) × Passed ts
+
+pub unrefused : (ts : List Test) → fault ts ≡ none → Passed ts
+unfolding fault
+unrefused [] e = tt
+unrefused (t ∷ ts) e = go (unrefused ts) (which (t .fails))
+  where
+    go : (fault ts ≡ none → Passed ts) → (t .fails ≡ true) ⊎ (t .fails ≡ false) → Passed (t ∷ ts)
+    go ih (inl f) = absurd (Option·some-ne-none (t .number) (rw f at e))
+    go ih (inr f) = (f, ih (rw f at e))
+
+pub passed : (ts : List Test) → Passed ts → fault ts ≡ none
+unfolding fault
+passed [] p = refl
+passed (t ∷ ts) p = rw (p .0) (passed ts (p .1))
+
+pub fault-left : (us ts : List Test) → fault (us ++ ts) ≡ none → fault us ≡ none
+unfolding fault
+fault-left [] ts e = refl
+fault-left (u ∷ us) ts e = go (fault-left us ts) (which (u .fails))
+  where
+    go : (fault (us ++ ts) ≡ none → fault us ≡ none) → (u .fails ≡ true) ⊎ (u .fails ≡ false) → fault (u ∷ us) ≡ none
+    go ih (inl f) = absurd (Option·some-ne-none (u .number) (rw f at e))
+    go ih (inr f) = rw f (ih (rw f at e))
+
+pub fault-right : (us ts : List Test) → fault us ≡ none → fault (us ++ ts) ≡ fault ts
+unfolding fault
+fault-right [] ts e = refl
+fault-right (u ∷ us) ts e = go (fault-right us ts) (which (u .fails))
+  where
+    go : (fault us ≡ none → fault (us ++ ts) ≡ fault ts) → (u .fails ≡ true) ⊎ (u .fails ≡ false) → fault (u ∷ us ++ ts) ≡ fault ts
+    go ih (inl f) = absurd (Option·some-ne-none (u .number) (rw f at e))
+    go ih (inr f) = rw f (ih (rw f at e))
+
+pub fault-stop : (us ts : List Test) (n : ℕ) → fault us ≡ some n → fault (us ++ ts) ≡ some n
+unfolding fault
+fault-stop [] ts n e = absurd (Option·some-ne-none n (sym e))
+fault-stop (u ∷ us) ts n e = go (fault-stop us ts n) (which (u .fails))
+  where
+    go : (fault us ≡ some n → fault (us ++ ts) ≡ some n) → (u .fails ≡ true) ⊎ (u .fails ≡ false) → fault (u ∷ us ++ ts) ≡ some n
+    go ih (inl f) = rw f (rw f at e)
+    go ih (inr f) = rw f (ih (rw f at e))

@@ -1,0 +1,1 @@
+// Definitions that every layer shares stand in specs/. There is no code.

@@ -1,0 +1,5 @@
+pub mod Steps
+pub mod Patterns
+pub mod Cases
+pub mod Squares
+pub mod Values

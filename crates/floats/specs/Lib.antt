@@ -1,0 +1,9 @@
+-- The words of the contracts of module 1: rounded arithmetic, root, truncation, rounding up, and tests of a float.
+pub mod Rounded
+pub mod Tests
+pub mod Sqrt
+pub mod Law
+pub mod Posts
+pub mod Exact
+pub mod Ceil
+pub mod Least
