@@ -99,7 +99,7 @@ root-of-infinity x e = e ∙ at ∙ ap sqrtOf (sym e)
     at = unfold sqrtOf in refl
 
 -- ---- x == 0.0
-positive-product : (m : ℕ) (a : ℕ) → 0 < a → suc m * a * 1 ≡ 0 → ⊥
+pub positive-product : (m : ℕ) (a : ℕ) → 0 < a → suc m * a * 1 ≡ 0 → ⊥
 positive-product m a A h = lt-irrefl 0 (subst (λ (x : ℕ). 0 < x) (sym (mul-one (suc m * a)) ∙ h) (mul-pos (zero-lt-suc m) A))
 
 pub root-of-zero : (x : Float) → eq x zero-of ≡ true → x ≡ sqrtOf x
@@ -112,7 +112,7 @@ root-of-zero (fin s (suc m) e) h =
     (eqb→eq (suc m * up e * 1) (0 * 1 * down e) (and-l (eqb (suc m * up e * 1) (0 * 1 * down e)) (Bool·beq s false || eqb (suc m * up e * 1) 0) (subst T (sym h) tt)) ∙ zero-mul (down e)))
 
 -- ---- neither
-zero-equal : (s b : Bool) (x y : ℕ) → x ≡ 0 → y ≡ 0 → (eqb x y && (b || eqb x 0)) ≡ true
+pub zero-equal : (s b : Bool) (x y : ℕ) → x ≡ 0 → y ≡ 0 → (eqb x y && (b || eqb x 0)) ≡ true
 zero-equal s b x y p q = ap (λ (z : ℕ). eqb z y && (b || eqb z 0)) p ∙ ap (λ (z : ℕ). eqb 0 z && (b || true)) q ∙ or-true b
   where
     or-true : (b : Bool) → (b || true) ≡ true

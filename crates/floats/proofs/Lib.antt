@@ -3,3 +3,4 @@ pub mod Patterns
 pub mod Cases
 pub mod Squares
 pub mod Values
+pub mod Choices

@@ -208,21 +208,33 @@ pub fn abs(x: f64) -> f64
 pub fn min(a: f64, b: f64) -> f64
     ensures { λ r. ⌜ r ≡ minOf a b ⌝ }
 {
-    if b < a || a != a { b } else { a }
+    if b < a {
+        b
+    } else if a == a {
+        a
+    } else {
+        b
+    }
 }
 
 // The larger of two, and the first of two that are equal. A NaN gives way to the other.
 pub fn max(a: f64, b: f64) -> f64
     ensures { λ r. ⌜ r ≡ maxOf a b ⌝ }
 {
-    if a < b || a != a { b } else { a }
+    if a < b {
+        b
+    } else if a == a {
+        a
+    } else {
+        b
+    }
 }
 
 // Neither a NaN nor an infinity.
 pub fn is_finite(x: f64) -> bool
     ensures { λ r. ⌜ r ≡ finite x ⌝ }
 {
-    abs(x) <= 1.7976931348623157e308
+    abs(x) < f64::from_bits(0x7ff0_0000_0000_0000)
 }
 
 // Whether x is finite and of magnitude at most a finite limit.

@@ -1,4 +1,4 @@
--- `root::assembled` meets its contract: `Patterns.antt` has what each parity of h makes. Assumes nothing.
+-- `floats::assembled` meets its contract: `Patterns.antt` has what each parity of h makes. Assumes nothing.
 use mathlib.Core.Path.{sym, subst}
 use Prim.Native.Nat.{ℕ, _*_, _^_, _≤_}
 use native.Mathlib.Omega.{arith}

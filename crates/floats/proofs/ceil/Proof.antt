@@ -1,4 +1,4 @@
--- `whole::ceil` meets its contract: `Values.antt` has each of its ways out. Assumes nothing.
+-- `floats::ceil` meets its contract: `Values.antt` has each of its ways out. Assumes nothing.
 use mathlib.Core.Path.{_≡_, sym, ap, _∙_, subst}
 use mathlib.Core.Bool.{true, false}
 use Prim.Native.Nat.{ℕ, _+_, _^_, _<_}

@@ -1,4 +1,4 @@
--- `root::corrected` meets its contract: `Squares.antt` has what the code's f is, and when q, q + 1 and q - 1 are the nearest. Assumes nothing.
+-- `floats::corrected` meets its contract: `Squares.antt` has what the code's f is, and when q, q + 1 and q - 1 are the nearest. Assumes nothing.
 use mathlib.Core.Path.{_≡_, refl}
 use Prim.Native.Nat.{ℕ, _+_, _-_, _*_, _/_, _%_, _^_, _≤_}
 use native.Mathlib.Omega.{arith}

@@ -1,4 +1,4 @@
--- `root::guess` meets its contract, which says only that the guess has 53 digits. Assumes nothing.
+-- `floats::guess` meets its contract, which says only that the guess has 53 digits. Assumes nothing.
 use Prim.Native.Nat.{_-_, _/_}
 use native.Mathlib.Omega.{arith}
 use borrow.Author.Needs.{needs}

@@ -1,4 +1,4 @@
--- `root::root` meets its contract.
+-- `floats::root` meets its contract.
 use mathlib.Core.Logic.{⊎-elim}
 use mathlib.Core.Path.{sym, subst₂}
 use Prim.Native.Nat.{ℕ, _-_, _*_, _%_, _^_}

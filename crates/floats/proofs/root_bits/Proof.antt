@@ -1,4 +1,4 @@
--- `root::root_bits` meets its contract: `Patterns.antt` has the subnormal and the normal values. Assumes nothing.
+-- `floats::root_bits` meets its contract: `Patterns.antt` has the subnormal and the normal values. Assumes nothing.
 use mathlib.Core.Path.{refl}
 use Prim.Native.Nat.{_%_, _^_, _<_}
 use native.Mathlib.Omega.{arith}

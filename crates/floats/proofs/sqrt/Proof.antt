@@ -1,4 +1,4 @@
--- `root::sqrt` meets its contract. `Cases.antt` has the values by its tests; a value is the one that is read from its own pattern. Assumes nothing.
+-- `floats::sqrt` meets its contract. `Cases.antt` has the values by its tests; a value is the one that is read from its own pattern. Assumes nothing.
 use mathlib.Core.Path.{_≡_, sym, ap, _∙_, subst}
 use mathlib.Core.Bool.{true, false}
 use lib.Dec.{T}

@@ -1,4 +1,4 @@
--- `whole::truncated` meets its contract. Assumes nothing.
+-- `floats::truncated` meets its contract. Assumes nothing.
 use mathlib.Core.Path.{sym, subst}
 use lib.Dec.{T}
 use lib.Ieee.{ofBits, neg}
