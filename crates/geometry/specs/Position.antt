@@ -1,0 +1,27 @@
+-- Positions: a record of three floats, tied to the list of its coordinates on the axes in use. Every definition over the axes is one over such lists.
+-- Assumes nothing.
+use Prim.Native.Nat.{ℕ}
+use mathlib.Core.Bool.{Bool, not, _&&_, _||_}
+use mathlib.Core.List.{List, [], _∷_}
+use lib.Dec.{eqb}
+use lib.ListN.{take, getD}
+use lib.Ieee.{Float}
+use Rattle.floats.specs.Rounded.{zeroF, pow2}
+use Rattle.floats.specs.Tests.{within}
+use Rattle.geometry.specs.declared.Position.{Position}
+
+-- the coordinates on the first n axes
+abbrev pub coords : ℕ → Position → List Float
+coords n p = take n (p .x ∷ p .y ∷ p .z ∷ [])
+
+-- the position with these coordinates: on an axis that the list lacks, +0
+abbrev pub positionOf : List Float → Position
+positionOf l = record { x = getD l 0 zeroF; y = getD l 1 zeroF; z = getD l 2 zeroF }
+
+-- 2 or 3 axes
+abbrev pub dimension : ℕ → Bool
+dimension n = eqb n 2 || eqb n 3
+
+-- a coordinate or a radius: finite, of magnitude at most 1,048,576
+abbrev pub coordinate : Float → Bool
+coordinate x = within (pow2 20) x
