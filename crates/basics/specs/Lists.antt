@@ -1,10 +1,14 @@
 -- Lists: the work along the axes, which is one definition for any number of them, and the first entries of lent lists.
 -- Assumes nothing.
-use Prim.Native.Nat.{ℕ, zero, suc}
+use Prim.Native.Nat.{ℕ, zero, suc, _+_, _≤_, _<_}
+use native.Mathlib.Nat.{not-suc-le-zero, le-of-suc-le-suc}
+use native.Mathlib.Numerals.{add-one}
+use mathlib.Core.Path.{_≡_, refl, _∙_}
 use mathlib.Core.Bool.{Bool, true, false, cond, _&&_, _||_}
 use mathlib.Core.List.{List, [], _∷_, _++_}
 use lib.Dec.{ltb, eqb}
-use lib.ListN.{length, drop}
+use lib.ListN.{length, getD, take, drop, drop-of-length-le}
+use lib.Seq.{drop-cons}
 
 module _ {A : Type 0} where
   unfoldable pub all : (A → Bool) → List A → Bool
@@ -45,3 +49,34 @@ has i (j ∷ js) = eqb j i || has i js
 unfoldable pub enter : ℕ → List ℕ → List ℕ
 enter i [] = i ∷ []
 enter i (j ∷ js) = let rest = enter i js in cond (ltb i j) (i ∷ j ∷ js) (cond (eqb j i) (j ∷ js) (j ∷ rest))
+
+-- ---- laws
+
+-- the first n of two lists joined entry by entry
+pub take-zip : {A B C : Type 0} (f : A → B → C) (n : ℕ) (xs : List A) (ys : List B) → take n (zipWith f xs ys) ≡ zipWith f (take n xs) (take n ys)
+unfolding zipWith
+take-zip f zero xs ys = refl
+take-zip f (suc n) [] ys = refl
+take-zip f (suc n) (x ∷ xs) [] = refl
+take-zip f (suc n) (x ∷ xs) (y ∷ ys) = rw (take-zip f n xs ys)
+
+module _ {A : Type 0} where
+  -- an entry before the end is not the default
+  pub getD-any : (xs : List A) (i : ℕ) (d e : A) → i < length xs → getD xs i d ≡ getD xs i e
+  getD-any [] i d e h = absurd (not-suc-le-zero h)
+  getD-any (x ∷ xs) zero d e h = refl
+  getD-any (x ∷ xs) (suc i) d e h = getD-any xs i d e (le-of-suc-le-suc h)
+
+  -- A walk that asks `all`. What it knows of the entries from i on: a turn that finds one that fails, a turn that does not, and the end.
+  module _ (p : A → Bool) (xs : List A) (i : ℕ) (walk : all p xs ≡ all p (drop i xs)) where
+    pub all-stop : (d : A) → i < length xs → p (getD xs i d) ≡ false → all p xs ≡ false
+    unfolding all
+    all-stop d h f = walk ∙ rw (drop-cons xs i d h, f)
+
+    pub all-next : (d : A) → i < length xs → p (getD xs i d) ≡ true → all p xs ≡ all p (drop (i + 1) xs)
+    unfolding all
+    all-next d h f = walk ∙ rw (drop-cons xs i d h, f, add-one)
+
+    pub all-end : length xs ≤ i → all p xs ≡ true
+    unfolding all
+    all-end h = walk ∙ rw (drop-of-length-le xs h)

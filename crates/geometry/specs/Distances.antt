@@ -10,7 +10,9 @@ use Rattle.basics.specs.Lists.{all, zipWith}
 use Rattle.basics.specs.Refusals.{Test, refuse, fault, Answer, refused, success, answer}
 use Rattle.floats.specs.Rounded.{_⊕_, _⊖_, _⊗_, _⊘_, zeroF, pow2⁻}
 use Rattle.floats.specs.Sqrt.{sqrtOf}
-use Rattle.geometry.specs.Position.{dimension, coordinate}
+use Rattle.geometry.specs.Position.{coords, dimension, coordinate}
+use Rattle.geometry.specs.declared.Position.{Position}
+use Rattle.geometry.specs.declared.Line.{Line}
 use Rattle.geometry.specs.declared.Measured.{Measured}
 use Rattle.geometry.specs.declared.Measured.the-variants.{Distance, Refused}
 
@@ -44,6 +46,15 @@ pointPoint a b = let d = from a b in sqrtOf (dot d d)
 unfoldable pub tooClose : List Float → List Float → Bool
 unfolding le dot from
 tooClose a b = let n = from a b in le (dot n n) (pow2⁻ 52)
+
+-- b - a of two positions, on all three axes
+abbrev pub less : Position → Position → Position
+less a b = record { x = b .x ⊖ a .x; y = b .y ⊖ a .y; z = b .z ⊖ a .z }
+
+-- The line through a and b as the code holds it: an end, n = b - a, and n ⋅ n.
+unfoldable pub lineOf : ℕ → Position → Position → Line
+unfolding dot from
+lineOf ndim a b = let n = from (coords ndim a) (coords ndim b) in record { a = a; n = less a b; «n_dot_n» = dot n n }
 
 -- q = x - n * (x ⋅ n) / (n ⋅ n), with x = c - a and n = b - a; the product comes first, then the quotient
 unfoldable pub pointLine : List Float → List Float → List Float → Float

@@ -2,3 +2,4 @@
 pub mod Position
 pub mod Distances
 pub mod Cells
+pub mod Axes

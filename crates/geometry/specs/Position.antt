@@ -1,6 +1,6 @@
 -- Positions: a record of three floats, tied to the list of its coordinates on the axes in use. Every definition over the axes is one over such lists.
 -- Assumes nothing.
-use Prim.Native.Nat.{ℕ}
+use Prim.Native.Nat.{ℕ, zero, suc}
 use mathlib.Core.Bool.{Bool, not, _&&_, _||_}
 use mathlib.Core.List.{List, [], _∷_}
 use lib.Dec.{eqb}
@@ -17,6 +17,12 @@ coords n p = take n (p .x ∷ p .y ∷ p .z ∷ [])
 -- the position with these coordinates: on an axis that the list lacks, +0
 abbrev pub positionOf : List Float → Position
 positionOf l = record { x = getD l 0 zeroF; y = getD l 1 zeroF; z = getD l 2 zeroF }
+
+-- the coordinate on axis i: x for 0, y for 1, else z
+abbrev pub axisOf : ℕ → Position → Float
+axisOf zero p = p .x
+axisOf (suc zero) p = p .y
+axisOf (suc (suc i)) p = p .z
 
 -- 2 or 3 axes
 abbrev pub dimension : ℕ → Bool
