@@ -1,17 +1,17 @@
 -- The values by the two tests of `sqrt`, x > 0.0 and x == 0.0. Assumes nothing.
 use mathlib.Core.Path.{_≡_, refl, sym, ap, _∙_, subst}
-use Prim.Native.Nat.{ℕ, zero, suc, _+_, _-_, _*_, _/_, _%_, _^_, _≤_, _<_}
-use native.Mathlib.Nat.{lt-of-lt-of-le, lt-irrefl, zero-mul, mul-one, mul-pos, zero-lt-suc, mod-eq-of-lt}
+use Prim.Native.Nat.{ℕ, zero, suc, _+_, _*_, _/_, _%_, _^_, _≤_, _<_}
+use native.Mathlib.Nat.{lt-irrefl, zero-mul, mul-one, mul-pos, zero-lt-suc, mod-eq-of-lt}
 use native.Mathlib.Omega.{arith}
 use native.Mathlib.Decide.{decLt}
 use mathlib.Core.Bool.{Bool, true, false, not, cond, _&&_, _||_, Bool·beq, true≢false, false≢true}
-use lib.Dec.{T, leb, ltb, eqb, eqb→eq, lt→ltb}
+use lib.Dec.{T, ltb, eqb, eqb→eq}
 use lib.IntN.{pos}
 use lib.Ieee.{Float, nan, inf, fin, binary64, fits, up, down, odd, lt, eq, div, isNan, nanBits, ofFields, ofBits, toBits}
-use lib.Ieee.Bits.{ofBits-toBits, toBits-lt, nanBits-above}
+use lib.Ieee.Bits.{ofBits-toBits, nanBits-above}
 use lib.Ieee.Fits.{up-pos, and-l}
-use borrow.Author.Tests.{lt-ltb, le-ltb, le-leb, eq-eqb, eqb-true}
-use Rattle.floats.specs.Sqrt.{sqrtIn, sqrtOf}
+use borrow.Author.Tests.{lt-ltb, le-ltb, le-leb}
+use Rattle.floats.specs.Sqrt.{sqrtOf}
 use Rattle.floats.proofs.Patterns.{fields}
 
 abbrev pub zero-of : Float
@@ -134,10 +134,3 @@ no-root (fin false (suc m) e) h k =
 pub made-nan : div binary64 (ofBits binary64 0) (ofBits binary64 0) ≡ nan
 unfolding div ofBits
 made-nan = refl
-
--- ---- e == e
-pub self-equal : (x : Float) → eq x x ≡ true → T (not (isNan x))
-unfolding eq isNan
-self-equal nan h = absurd (false≢true h)
-self-equal (inf s) h = tt
-self-equal (fin s m e) h = tt

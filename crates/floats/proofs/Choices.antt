@@ -1,17 +1,19 @@
 -- The values by the tests of `abs`, `min`, `max` and `same_bits`. Assumes nothing.
 use mathlib.Core.Path.{_≡_, refl, sym, ap, _∙_, subst}
-use Prim.Native.Nat.{ℕ, zero, suc, _+_, _*_, _^_, _<_}
-use native.Mathlib.Nat.{lt-irrefl, zero-mul, mul-one, one-mul, mul-pos, zero-lt-suc, pow-suc}
+use Prim.Native.Nat.{ℕ, zero, suc, _+_, _*_, _^_}
+use native.Mathlib.Nat.{zero-mul, mul-one, one-mul, mul-pos, zero-lt-suc, pow-suc}
 use native.Mathlib.Omega.{arith}
-use mathlib.Core.Bool.{Bool, true, false, not, cond, _&&_, _||_, Bool·beq, true≢false, false≢true}
-use lib.Dec.{T, ltb, eqb, eqb→eq, ltb→lt, eqb-refl}
-use lib.Pow.{pow-pos}
+use mathlib.Core.Bool.{true, false, _||_, Bool·beq, true≢false, false≢true}
+use lib.Dec.{T, ltb, eqb, eqb→eq, ltb→lt}
 use lib.IntN.{ℤ, pos, negsuc}
-use lib.Ieee.{Float, nan, inf, fin, binary64, fits, up, down, lt, eq, neg, isNan, ofBits, nanBits, toBits}
+use lib.Ieee.{Float, nan, inf, fin, binary64, fits, up, down, lt, eq, neg, isNan}
 use lib.Ieee.Bits.{is-true}
 use lib.Ieee.Fits.{up-pos, and-l}
 use borrow.Author.Tests.{lt-ltb}
-use Rattle.floats.specs.Tests.{absOf, minOf, maxOf, finite, within, sameBits}
+use Rattle.floats.specs.Tests.{absOf, minOf, maxOf, finite}
+use Rattle.floats.specs.Order.{eq-left, eq-self}
+use Rattle.basics.specs.Bools.{which, clash}
+use mathlib.Core.Logic.{_⊎_, inl, inr}
 use Rattle.floats.proofs.Cases.{zero-of, zero-equal, positive-product}
 
 -- ---- abs
@@ -55,23 +57,13 @@ abs-other (fin true zero e) h k =
 abs-other (fin true (suc m) e) h k =
     absurd (true≢false (sym (lt-ltb 0 (suc m * up e * 1 + 0 * 1 * down e) (omega (arith, mul-pos (zero-lt-suc m) (up-pos e)))) ∙ h))
 
--- ---- a value equals itself unless it is a NaN
-beq-self : (s : Bool) → Bool·beq s s ≡ true
-beq-self true = refl
-beq-self false = refl
-
-pub self-test : (x : Float) → eq x x ≡ not (isNan x)
-unfolding eq isNan
-self-test nan = refl
-self-test (inf s) = beq-self s
-self-test (fin s m e) = rw (is-true (eqb (m * up e * down e) (m * up e * down e)) (eqb-refl (m * up e * down e)), beq-self s)
-
-not-inv : (b c : Bool) → c ≡ not b → b ≡ not c
-not-inv true c h = ap not (sym h)
-not-inv false c h = ap not (sym h)
-
-pub nan-test : (x : Float) → isNan x ≡ not (eq x x)
-nan-test x = not-inv (isNan x) (eq x x) (self-test x)
+-- ---- a value that does not equal itself is a NaN
+pub differs : (x : Float) → eq x x ≡ false → isNan x ≡ true
+differs x h = go (which (isNan x))
+  where
+    go : (isNan x ≡ true) ⊎ (isNan x ≡ false) → isNan x ≡ true
+    go (inl p) = p
+    go (inr p) = clash (eq-self x p) h
 
 -- ---- min and max: which of two, by the tests made
 module _ (a b : Float) where
@@ -81,11 +73,11 @@ module _ (a b : Float) where
 
   pub min-same : lt b a ≡ false → eq a a ≡ true → a ≡ minOf a b
   unfolding minOf
-  min-same h k = rw (h, nan-test a, k)
+  min-same h k = rw (h, eq-left a a k)
 
   pub min-nan : lt b a ≡ false → eq a a ≡ false → b ≡ minOf a b
   unfolding minOf
-  min-nan h k = rw (h, nan-test a, k)
+  min-nan h k = rw (h, differs a k)
 
   pub max-above : lt a b ≡ true → b ≡ maxOf a b
   unfolding maxOf
@@ -93,11 +85,11 @@ module _ (a b : Float) where
 
   pub max-same : lt a b ≡ false → eq a a ≡ true → a ≡ maxOf a b
   unfolding maxOf
-  max-same h k = rw (h, nan-test a, k)
+  max-same h k = rw (h, eq-left a a k)
 
   pub max-nan : lt a b ≡ false → eq a a ≡ false → b ≡ maxOf a b
   unfolding maxOf
-  max-nan h k = rw (h, nan-test a, k)
+  max-nan h k = rw (h, differs a k)
 
 -- ---- the tests
 pub finite-test : (x : Float) → lt (absOf x) (inf false) ≡ finite x
@@ -105,19 +97,3 @@ unfolding lt absOf finite
 finite-test nan = refl
 finite-test (inf s) = refl
 finite-test (fin s m e) = refl
-
-pub equal-left : (a b : Float) → eq a b ≡ true → T (not (isNan a))
-unfolding eq isNan
-equal-left nan b h = absurd (false≢true h)
-equal-left (inf s) b h = tt
-equal-left (fin s m e) b h = tt
-
-pub equal-right : (a b : Float) → eq a b ≡ true → T (not (isNan b))
-unfolding eq isNan
-equal-right nan b h = absurd (false≢true h)
-equal-right (inf s) nan h = absurd (false≢true h)
-equal-right (inf s) (inf t) h = tt
-equal-right (inf s) (fin t n d) h = tt
-equal-right (fin s m e) nan h = absurd (false≢true h)
-equal-right (fin s m e) (inf t) h = tt
-equal-right (fin s m e) (fin t n d) h = tt

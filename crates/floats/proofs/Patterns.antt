@@ -1,18 +1,18 @@
 -- What a bit pattern of an `f64` stands for, and the root of a * 2 ^ h units as one. Assumes nothing.
 use mathlib.Core.Path.{_≡_, refl, sym, ap, _∙_, subst}
-use Prim.Native.Nat.{ℕ, zero, suc, _+_, _-_, _*_, _/_, _%_, _^_, _≤_, _<_}
-use native.Mathlib.Nat.{le-trans, le-of-eq, le-of-lt, lt-of-lt-of-le, lt-of-le-of-lt, lt-of-not-le, lt-irrefl, mul-one, one-mul, mul-assoc, mul-comm, mul-right-comm, mul-mul-mul-comm, mul-pos, mul-le-mul-right, mul-lt-mul-of-pos-right, le-mul-of-pos-right, mod-eq-of-lt}
+use Prim.Native.Nat.{ℕ, suc, _+_, _-_, _*_, _/_, _%_, _^_, _≤_, _<_}
+use native.Mathlib.Nat.{le-trans, le-of-eq, le-of-lt, lt-of-lt-of-le, lt-of-le-of-lt, lt-of-not-le, lt-irrefl, mul-one, mul-assoc, mul-comm, mul-mul-mul-comm, mul-pos, mul-le-mul-right, mul-lt-mul-of-pos-right, le-mul-of-pos-right, mod-eq-of-lt}
 use native.Mathlib.Omega.{arith}
 use native.Mathlib.Decide.{ℕ-discrete}
-use mathlib.Core.Bool.{Bool, true, false, not, cond}
-use lib.Dec.{T, leb, eqb, lit<, lit≤}
+use mathlib.Core.Bool.{Bool, false, cond}
+use lib.Dec.{eqb, lit<, lit≤}
 use lib.Count.{leadingZeros, leading-top}
 use lib.Pow.{pow-add, pow-pos, pow-mono}
-use lib.Ieee.{Float, nan, inf, fin, Format, binary64, odd, ofFields, ofBits}
-use lib.Ieee.Exact.{HasValue, odd-sign}
+use lib.Ieee.{Float, nan, inf, binary64, odd, ofFields, ofBits}
+use lib.Ieee.Exact.{odd-sign}
 use borrow.Author.Tests.{lt-leb, ne-eqb}
-use Rattle.floats.specs.Sqrt.{rootOf, sqrtIn, sqrtOf}
-use Rattle.floats.specs.Law.{Near, root-of-near, sqrt-value}
+use Rattle.floats.specs.Sqrt.{rootOf, sqrtOf}
+use Rattle.floats.specs.Near.{Near, root-of-near, sqrt-value}
 use Rattle.floats.specs.Posts.{Rounded, Written}
 
 -- ---- reading a pattern whose sign is clear

@@ -1,10 +1,10 @@
 -- The arithmetic of `root`: a turn of its loop, and the rounding after it. Assumes nothing.
 use mathlib.Core.Path.{_≡_, sym, ap, _∙_, subst}
 use Prim.Native.Nat.{ℕ, zero, suc, _+_, _-_, _*_, _/_, _%_, _^_, _≤_, _<_}
-use native.Mathlib.Nat.{le-trans, lt-of-lt-of-le, lt-irrefl, le-of-suc-le-suc, lt-of-not-le, not-le-of-lt, le-mul-of-pos-right, mul-one, mul-assoc, mul-comm, mul-le-mul, pow-suc, mul-mul-mul-comm}
+use native.Mathlib.Nat.{le-trans, lt-irrefl, le-of-suc-le-suc, lt-of-not-le, le-mul-of-pos-right, mul-assoc, mul-comm, mul-le-mul, pow-suc, mul-mul-mul-comm}
 use native.Mathlib.Omega.{arith}
 use lib.Pow.{pow-pos}
-use Rattle.floats.specs.Law.{square-suc, square-double, square-odd}
+use Rattle.floats.specs.Near.{square-suc, square-double, square-odd}
 use Rattle.floats.specs.Posts.{Rounded}
 
 -- ---- the loop

@@ -1,14 +1,14 @@
 -- Floats by comparisons with whole numbers, and their whole parts. Assumes nothing.
 use mathlib.Core.Path.{_≡_, refl, sym, ap, _∙_, subst}
 use Prim.Native.Nat.{ℕ, zero, suc, _+_, _-_, _*_, _/_, _%_, _^_, _≤_, _<_, min, compare}
-use native.Mathlib.Nat.{le-trans, le-of-lt, lt-of-lt-of-le, lt-irrefl, zero-mul, one-mul, mul-one, mul-assoc, mul-comm, mul-right-comm, mul-le-mul-right, le-mul-of-pos-right, lt-of-mul-lt-mul-right, le-of-mul-le-mul-right, div-add-mod', div-lt-iff-lt-mul, le-div-iff-mul-le, mod-one, add-zero, pow-suc}
+use native.Mathlib.Nat.{zero-mul, mul-one, mul-right-comm, lt-of-mul-lt-mul-right, le-of-mul-le-mul-right, div-add-mod', div-lt-iff-lt-mul, le-div-iff-mul-le, mod-one, add-zero, pow-suc}
 use native.Mathlib.Omega.{arith}
-use mathlib.Core.Bool.{Bool, true, false, not, cond, _&&_, true≢false, false≢true}
-use lib.Dec.{T, leb, ltb, eqb, ltb→lt, lt→ltb, le→leb, lit<}
+use mathlib.Core.Bool.{Bool, true, false, cond, _&&_, true≢false, false≢true}
+use lib.Dec.{T, leb, ltb, eqb, ltb→lt, lt→ltb, le→leb}
 use lib.Pow.{pow-pos}
 use lib.IntN.{ℤ, pos, negsuc}
 use lib.Ieee.{Float, nan, inf, fin, Format, binary64, prec, emax, low, up, down, size, nearest, odd, units, round, neg, lt, fits, ofInt, toUnsigned, inFloat}
-use lib.Ieee.Fits.{up-pos, down-pos, and-l, and-r, round-is}
+use lib.Ieee.Fits.{down-pos, and-l, and-r, round-is}
 use lib.Ieee.Exact.{HasValue}
 use lib.Ieee.Back.{round-whole}
 use borrow.Author.Tests.{ltb-true, ltb-false, lt-ltb, eq-eqb, ne-eqb}

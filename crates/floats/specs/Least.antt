@@ -1,17 +1,18 @@
 -- What `ceilOf` means: of a finite value that binary64 holds, the result is a whole number c with the value's sign, and no whole number lies between the two (`ceil-least`).
 -- Assumes nothing.
-use mathlib.Core.Path.{_≡_, refl, sym, ap, _∙_, subst}
-use Prim.Native.Nat.{ℕ, zero, suc, _+_, _-_, _*_, _/_, _%_, _^_, _≤_, _<_}
-use native.Mathlib.Nat.{le-trans, lt-of-le-of-lt, mod-one, mul-one, mod-lt, div-add-mod', add-mul, add-zero, div-lt-iff-lt-mul, pow-suc}
+use mathlib.Core.Path.{_≡_, refl, sym, ap, subst}
+use Prim.Native.Nat.{ℕ, zero, suc, _+_, _*_, _/_, _%_, _^_, _≤_, _<_}
+use native.Mathlib.Nat.{mod-one, mod-lt, div-add-mod', add-mul, add-zero, div-lt-iff-lt-mul, pow-suc}
 use native.Mathlib.Omega.{arith}
-use mathlib.Core.Bool.{Bool, true, false, not, cond, _&&_}
-use lib.Dec.{T, leb, ltb, eqb, eqb→eq, ltb→lt, T-not}
+use mathlib.Core.Bool.{Bool, true, false, not, cond}
+use lib.Dec.{T, eqb, eqb→eq, T-not}
 use lib.Pow.{pow-pos}
 use lib.IntN.{ℤ, pos, negsuc}
-use lib.Ieee.{Float, fin, binary64, up, down, round, fits}
-use lib.Ieee.Fits.{and-l, and-r, down-pos, eq→eqb}
+use lib.Ieee.{fin, binary64, up, down, round, fits}
+use lib.Ieee.Fits.{down-pos, eq→eqb}
 use lib.Ieee.Exact.{HasValue}
 use lib.Ieee.Back.{round-whole}
+use Rattle.floats.specs.Held.{held}
 use Rattle.floats.specs.Ceil.{ceilOf}
 
 -- c is n / d, or the whole number next to it: above it where s is false, and nearer to zero where s is true
@@ -51,14 +52,8 @@ at s m e h false y n =
     (c, round-whole binary64 s c (omega (arith, small m e h (n tt), one-at-most s)), beside s (m * up e) (down e) (down-pos e) (n tt))
 
 digits : (s : Bool) (m : ℕ) (e : ℤ) → T (fits binary64 (fin s m e)) → m < 2 ^ 53
-unfolding fits
 digits s zero e h = pow-pos 53
-digits s (suc m) e h =
-    let A = eqb (suc m % 2) 1 in
-    let B = ltb (suc m) (2 ^ 53) in
-    let C = leb (down e) (2 ^ 1074) in
-    let D = ltb (suc m * up e) (2 ^ 1024 * down e) in
-    ltb→lt (suc m) (2 ^ 53) (and-r A B (and-l (A && B) C (and-l (A && B && C) D h)))
+digits s (suc m) e h = held binary64 s m e h .digits
 
 pub ceil-least : (s : Bool) (m : ℕ) (e : ℤ) → T (fits binary64 (fin s m e)) → (c : ℕ) × HasValue (ceilOf (fin s m e)) s c 1 × Next s (m * up e) (down e) c
 unfolding ceilOf

@@ -1,7 +1,6 @@
 -- What is asked of one float, and the choices between two.
 -- Assumes nothing.
-use Prim.Native.Nat.{ℕ}
-use mathlib.Core.Bool.{Bool, true, false, cond, not, _&&_, _||_}
+use mathlib.Core.Bool.{Bool, true, false, cond, _&&_, _||_}
 use lib.Dec.{eqb}
 use lib.Ieee.{Float, nan, inf, fin, binary64, lt, le, eq, isNan, toBits}
 

@@ -1,7 +1,7 @@
 -- `floats::abs` meets its contract. Assumes nothing.
 use mathlib.Core.Path.{sym, subst}
 use lib.Dec.{T}
-use lib.Ieee.{binary64, fits, ofBits, neg}
+use lib.Ieee.{binary64, fits, ofBits}
 use Rattle.floats.proofs.Choices.{abs-below, abs-zero, abs-other}
 use Rattle.floats.proofs.abs.Statement.{statement}
 use Rattle.floats.proofs.abs.Tie as tie

@@ -1,6 +1,4 @@
 -- `floats::assembled` meets its contract: `Patterns.antt` has what each parity of h makes. Assumes nothing.
-use mathlib.Core.Path.{sym, subst}
-use Prim.Native.Nat.{ℕ, _*_, _^_, _≤_}
 use native.Mathlib.Omega.{arith}
 use borrow.Author.Needs.{needs}
 use Rattle.floats.proofs.Patterns.{shifted, at-either}

@@ -1,12 +1,10 @@
 -- `floats::ceil` meets its contract: `Values.antt` has each of its ways out. Assumes nothing.
-use mathlib.Core.Path.{_≡_, sym, ap, _∙_, subst}
-use mathlib.Core.Bool.{true, false}
+use mathlib.Core.Path.{sym, ap, _∙_, subst}
 use Prim.Native.Nat.{ℕ, _+_, _^_, _<_}
 use native.Mathlib.Omega.{arith}
 use lib.Dec.{T}
 use lib.IntN.{pos}
-use lib.Ieee.{Float, binary64, fits, lt, ofBits, neg, ofInt, toUnsigned}
-use Rattle.floats.specs.Ceil.{ceilOf}
+use lib.Ieee.{binary64, fits, lt, ofBits, neg, ofInt}
 use Rattle.floats.proofs.Values.{Above, Below, is-above, is-below, asked-above, asked-below, small-above, small-below, castable, above-part, above-whole, below-part, below-whole, large-above, large-below}
 use Rattle.floats.proofs.ceil.Statement.{statement}
 use Rattle.floats.proofs.ceil.Tie as tie

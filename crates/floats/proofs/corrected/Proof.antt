@@ -1,6 +1,6 @@
 -- `floats::corrected` meets its contract: `Squares.antt` has what the code's f is, and when q, q + 1 and q - 1 are the nearest. Assumes nothing.
 use mathlib.Core.Path.{_≡_, refl}
-use Prim.Native.Nat.{ℕ, _+_, _-_, _*_, _/_, _%_, _^_, _≤_}
+use Prim.Native.Nat.{_+_, _-_, _*_, _/_, _%_, _^_, _≤_}
 use native.Mathlib.Omega.{arith}
 use borrow.Author.Needs.{needs}
 use Rattle.floats.proofs.Squares.{f-is, rounded-of, up-one, down-one, product-lt}

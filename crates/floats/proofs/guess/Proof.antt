@@ -1,8 +1,12 @@
 -- `floats::guess` meets its contract, which says only that the guess has 53 digits. Assumes nothing.
+use mathlib.Core.Path.{sym, subst}
+use mathlib.Core.Bool.{Bool, not}
+use lib.Dec.{T}
 use Prim.Native.Nat.{_-_, _/_}
 use native.Mathlib.Omega.{arith}
 use borrow.Author.Needs.{needs}
-use Rattle.floats.proofs.Cases.{finite-no-nan, self-equal}
+use Rattle.floats.proofs.Cases.{finite-no-nan}
+use Rattle.floats.specs.Order.{eq-left}
 use Rattle.floats.proofs.guess.Statement.{statement}
 use Rattle.floats.proofs.guess.Tie as tie
 use Rattle.floats.proofs.guess.Reads as reads
@@ -18,7 +22,7 @@ float-from-bits-a : tie.Need-float-from-bits-a
 float-from-bits-a c = finite-no-nan (0x5fe6_eb50_c7b5_37a9 - c .args .w / 2) (omega arith)
 
 float-to-bits-result : tie.Need-float-to-bits-result
-float-to-bits-result c = self-equal _ (c .if1 .taken)
+float-to-bits-result c = subst (λ (b : Bool). T (not b)) (sym (eq-left _ _ (c .if1 .taken))) tt
 
 add-result : tie.Need-add-result
 add-result c = search needs

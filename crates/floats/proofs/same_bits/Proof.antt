@@ -1,14 +1,14 @@
 -- `floats::same_bits` meets its contract. Assumes nothing.
 use Rattle.floats.specs.Tests.{sameBits}
-use Rattle.floats.proofs.Choices.{equal-left, equal-right}
+use Rattle.floats.specs.Order.{eq-left, eq-right}
 use Rattle.floats.proofs.same_bits.Statement.{statement}
 use Rattle.floats.proofs.same_bits.Tie as tie
 
 float-to-bits-result : tie.Need-float-to-bits-result
-float-to-bits-result c = equal-left (c .before .args .a) (c .before .args .b) (c .if1 .taken)
+float-to-bits-result c = rw (eq-left (c .before .args .a) (c .before .args .b) (c .if1 .taken)) tt
 
 float-to-bits-result-2 : tie.Need-float-to-bits-result-2
-float-to-bits-result-2 c = equal-right (c .before .args .a) (c .before .args .b) (c .if1 .taken)
+float-to-bits-result-2 c = rw (eq-right (c .before .args .a) (c .before .args .b) (c .if1 .taken)) tt
 
 returns : tie.Need-returns
 unfolding sameBits

@@ -1,11 +1,11 @@
 -- `floats::sqrt` meets its contract. `Cases.antt` has the values by its tests; a value is the one that is read from its own pattern. Assumes nothing.
 use mathlib.Core.Path.{_≡_, sym, ap, _∙_, subst}
-use mathlib.Core.Bool.{true, false}
+use mathlib.Core.Bool.{true}
 use lib.Dec.{T}
-use lib.Ieee.{Float, binary64, fits, lt, ofBits, toBits}
+use lib.Ieee.{binary64, fits, lt, ofBits, toBits}
 use lib.Ieee.Bits.{ofBits-toBits}
 use Rattle.floats.specs.Sqrt.{sqrtOf}
-use Rattle.floats.proofs.Cases.{zero-of, read-zero, no-nan, pattern-pos, finite-no-nan, from-infinity, root-of-infinity, root-of-zero, no-root, made-nan}
+use Rattle.floats.proofs.Cases.{zero-of, no-nan, pattern-pos, finite-no-nan, from-infinity, root-of-infinity, root-of-zero, no-root, made-nan}
 use Rattle.floats.proofs.sqrt.Statement.{statement}
 use Rattle.floats.proofs.sqrt.Tie as tie
 

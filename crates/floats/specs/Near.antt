@@ -1,8 +1,8 @@
 -- The arithmetic of `rootOf`: its result is the multiple of a power of two that is nearest to an exact root (`root-near`), and there is only one (`unique`). `Exact.antt` says it of values.
 -- Assumes nothing.
 use mathlib.Core.Path.{_≡_, refl, sym, ap, _∙_, subst}
-use Prim.Native.Nat.{ℕ, zero, suc, _+_, _-_, _*_, _/_, _%_, _^_, _≤_, _<_, zero-le}
-use native.Mathlib.Nat.{le-refl, le-trans, le-of-eq, le-of-lt, le-antisymm, le-of-suc-le-suc, lt-of-lt-of-le, lt-of-le-of-lt, lt-of-not-le, not-le-of-lt, lt-irrefl, zero-lt-suc, zero-mul, mul-one, mul-assoc, mul-comm, mul-add, add-mul, mul-mul-mul-comm, mul-pos, mul-le-mul, mul-le-mul-right, mul-lt-mul-of-pos-right, div-lt-iff-lt-mul, le-div-iff-mul-le, mul-div-cancel, pow-suc}
+use Prim.Native.Nat.{ℕ, zero, suc, _+_, _-_, _*_, _/_, _^_, _≤_, _<_, zero-le}
+use native.Mathlib.Nat.{le-refl, le-trans, le-antisymm, le-of-suc-le-suc, lt-of-lt-of-le, lt-of-not-le, not-le-of-lt, lt-irrefl, zero-lt-suc, zero-mul, mul-assoc, mul-add, add-mul, mul-mul-mul-comm, mul-pos, mul-le-mul, mul-le-mul-right, mul-lt-mul-of-pos-right, div-lt-iff-lt-mul, le-div-iff-mul-le, mul-div-cancel, pow-suc}
 use native.Mathlib.Omega.{arith}
 use mathlib.Core.Bool.{Bool, true, false, not, cond, true≢false}
 use lib.Dec.{T, leb, ltb, leb→le, nleb→lt, ltb→lt, nltb→le}
@@ -53,19 +53,19 @@ pub record Near (p N q k : ℕ) : Type 0 where
   pub below : 4 * N ≤ (2 * q + 1) * (2 * q + 1) * (2 ^ k * 2 ^ k)
 
 -- ---- there is one such q and k
-lower-k : (p N q k q' k' : ℕ) → 0 < p → Near p N q k → Near p N q' k' → k ≤ k'
-lower-k p N q k q' k' P a b = le-of-suc-le-suc (lt-of-not-le (λ (g : suc k' ≤ k).
+pub lower-k : (p N q k N' q' k' : ℕ) → 0 < p → N ≤ N' → Near p N q k → Near p N' q' k' → k ≤ k'
+lower-k p N q k N' q' k' P n a b = le-of-suc-le-suc (lt-of-not-le (λ (g : suc k' ≤ k).
     let h : p + k' ≤ p - 1 + k = omega arith in
-    not-le-of-lt (b .most) (le-trans (mul-le-mul (pow-mono h) (pow-mono h)) (a .least))))
+    not-le-of-lt (b .most) (le-trans (mul-le-mul (pow-mono h) (pow-mono h)) (le-trans (a .least) n))))
 
-lower-q : (N q q' u : ℕ) → (2 * q - 1) * (2 * q - 1) * u < 4 * N → 4 * N ≤ (2 * q' + 1) * (2 * q' + 1) * u → q ≤ q'
+pub lower-q : (N q q' u : ℕ) → (2 * q - 1) * (2 * q - 1) * u < 4 * N → 4 * N ≤ (2 * q' + 1) * (2 * q' + 1) * u → q ≤ q'
 lower-q N q q' u a b = le-of-suc-le-suc (lt-of-not-le (λ (g : suc q' ≤ q).
     let h : 2 * q' + 1 ≤ 2 * q - 1 = omega arith in
     not-le-of-lt a (le-trans b (mul-le-mul-right u (mul-le-mul h h)))))
 
 pub unique : (p N q k q' k' : ℕ) → 0 < p → Near p N q k → Near p N q' k' → (k ≡ k') × (q ≡ q')
 unique p N q k q' k' P a b =
-    let e : k ≡ k' = le-antisymm (lower-k p N q k q' k' P a b) (lower-k p N q' k' q k P b a) in
+    let e : k ≡ k' = le-antisymm (lower-k p N q k N q' k' P (le-refl N) a b) (lower-k p N q' k' N q k P (le-refl N) b a) in
     let a' : (2 * q - 1) * (2 * q - 1) * (2 ^ k' * 2 ^ k') < 4 * N = subst (λ (j : ℕ). (2 * q - 1) * (2 * q - 1) * (2 ^ j * 2 ^ j) < 4 * N) e (a .above) in
     let b' : 4 * N ≤ (2 * q + 1) * (2 * q + 1) * (2 ^ k' * 2 ^ k') = subst (λ (j : ℕ). 4 * N ≤ (2 * q + 1) * (2 * q + 1) * (2 ^ j * 2 ^ j)) e (a .below) in
     (e, le-antisymm (lower-q N q q' (2 ^ k' * 2 ^ k') a' (b .below)) (lower-q N q' q (2 ^ k' * 2 ^ k') (b .above) b'))
