@@ -1,0 +1,118 @@
+/*
+ * gemlab: points and cells found by position.
+ *
+ * The library is target/staticlib/libcapi.a, for x86-64 Linux. It keeps nothing between calls and
+ * takes no memory but its stack: whatever it works on is lent by the caller.
+ *
+ *
+ * What a call gives back
+ *
+ * Every function returns a uint64_t: 0 is success, any other value is the number of a refusal from
+ * the table below. A call that could be refused for several reasons gives the first in the order
+ * that stands with the function. A refusal writes nothing: every list, count and result that was
+ * lent keeps its content.
+ *
+ *    1  the dimension is not 2 or 3
+ *    2  another position's length differs from the dimension
+ *    3  a float is not finite, a coordinate or a radius is past 1,048,576 in magnitude, a tolerance
+ *       or a border is above 1,024, or a positive tolerance is below 1/1,048,576
+ *    4  divisions 0
+ *    5  divisions 1
+ *    6  divisions, or an axis of a cell index, above 1,024
+ *    7  xmax is not above xmin on some axis
+ *    8  the tolerance is 0 or negative
+ *    9  the border is negative
+ *   10  the side of a container is at most twice the tolerance
+ *   11  the position is outside the sheet or the index
+ *   12  the call needs more new rows, or large-cell entries, than are free
+ *   13  what was handed in is damaged: a sheet that is not the one its settings give, rows out of
+ *       order, lists of unequal length, a count above its list, and the like
+ *   14  the lent list is shorter than the listing
+ *   15  the ends of a line, or of a cylinder's axis, are too close: the square of their distance is
+ *       at most 2^-52
+ *   16  a circle in 3D, a cylinder or a plane in 2D, a filter on an axis that is not there
+ *   17  a ratio exceeds its divisions
+ *   18  no cells
+ *   19  a corner names no point, or the flat lists hold no whole number of points or cells
+ *   20  the cutoff is outside 0 to 1
+ *   21  the percentage is outside 0 to 1
+ *   22  no extent, or 0 divisions, on some axis
+ *   23  every cell is large, and the percentage keeps them so
+ *   24  a lent list holds more than 65,536 points, cells or rows
+ *   25  the coordinate list is not of length 4
+ *
+ *
+ * How lists are passed
+ *
+ * A list is a pointer and its length, a number of entries. The pointer is aligned and never NULL,
+ * and that many entries can be read there, or written where it is not const. A list that is written
+ * overlaps no other argument. Nothing else is asked of a caller: every value of every argument has
+ * an answer.
+ *
+ * An empty list has length 0 and any aligned pointer that is not NULL, which is not read:
+ *
+ *     double none[1];
+ *     gemlab_point_point_distance(none, 0, none, 0, &distance);   (returns 1)
+ */
+#ifndef GEMLAB_H
+#define GEMLAB_H
+
+#include <stddef.h>
+#include <stdint.h>
+
+#ifdef __cplusplus
+extern "C" {
+#endif
+
+/*
+ * Distances.
+ *
+ * A position is a list of 2 or 3 coordinates, each finite and at most 1,048,576 in magnitude, as a
+ * radius is. The first position of a call gives the dimension. Each product, quotient, sum and root
+ * is rounded once to the nearest double, ties to even, in gemlab's order, so that results are
+ * gemlab's to the last bit.
+ */
+
+/*
+ * The distance between the points a and b, into *distance.
+ * Refusals: 1 (length of a), 2 (length of b), 3.
+ */
+uint64_t gemlab_point_point_distance(const double *a, size_t a_len,
+                                     const double *b, size_t b_len,
+                                     double *distance);
+
+/*
+ * The distance of the point c from the line through a and b, into *distance.
+ * Refusals: 1 (length of a), 2 (length of b or c), 3, 15.
+ */
+uint64_t gemlab_point_line_distance(const double *a, size_t a_len,
+                                    const double *b, size_t b_len,
+                                    const double *c, size_t c_len,
+                                    double *distance);
+
+/*
+ * The distance of the point p from a circle in the plane, into *distance: negative inside, 0 on the
+ * circle. The radius may be negative; the distance is then that to the centre plus its magnitude.
+ * Refusals: 1 (length of center), 16 (center has 3 coordinates), 2 (length of p), 3.
+ */
+uint64_t gemlab_point_circle_distance(const double *center, size_t center_len,
+                                      double radius,
+                                      const double *p, size_t p_len,
+                                      double *distance);
+
+/*
+ * The distance of the point p from the cylinder in space whose axis is the line through a and b,
+ * into *distance: negative inside, 0 on the cylinder. The radius may be negative, as above.
+ * Refusals: 1 (length of a), 16 (a has 2 coordinates), 2 (length of b or p), 3, 15.
+ */
+uint64_t gemlab_point_cylinder_distance(const double *a, size_t a_len,
+                                        const double *b, size_t b_len,
+                                        double radius,
+                                        const double *p, size_t p_len,
+                                        double *distance);
+
+#ifdef __cplusplus
+}
+#endif
+
+#endif
