@@ -1,0 +1,3 @@
+-- The words of the contracts of module 5: the sheet, its refusals, and the check that a sheet is the one its settings give.
+pub mod Sheet
+pub mod Examples
