@@ -4,9 +4,13 @@ use Prim.Native.Nat.{ℕ, _+_, _-_, _*_, _/_, _%_}
 use mathlib.Core.Bool.{Bool, true, false, cond, _||_}
 use mathlib.Core.List.{List, [], _∷_}
 use lib.Dec.{ltb, eqb}
+use lib.ListN.{take}
 use lib.Ieee.{Float, lt}
 use Rattle.basics.specs.Lists.{zipWith}
 use Rattle.floats.specs.Rounded.{_⊕_, _⊖_, _⊗_, _⊘_, ofNat, truncate, pow2}
+use Rattle.grid.specs.declared.Located.{Located}
+use Rattle.grid.specs.declared.Located.the-variants.{Key, Exceeds}
+use Rattle.grid.specs.declared.Pivot.{Pivot}
 
 -- below the low corner or above the high one on some axis
 unfoldable pub outside : List Float → List Float → List Float → Bool
@@ -41,10 +45,19 @@ unfoldable pub keyOf : List ℕ → Float → List Float → List Float → ℕ
 unfolding combine zipWith inner ratios
 keyOf ns side xmin x = combine ns (zipWith inner ns (ratios side xmin x))
 
+-- where a position falls: refusal 17, or the key of its container
+unfoldable pub located : List ℕ → Float → List Float → List Float → Located
+unfolding exceed ratios keyOf
+located ns side xmin x = cond (exceed ns (ratios side xmin x)) Exceeds (Key (record { 0 = keyOf ns side xmin x }))
+
 -- how many containers there are: keys are below this
 unfoldable pub containers : List ℕ → ℕ
 containers [] = 1
 containers (n ∷ ns) = n * containers ns
+
+-- the indices along the first n axes
+abbrev pub indices : ℕ → Pivot → List ℕ
+indices n p = take n (p .i ∷ p .j ∷ p .k ∷ [])
 
 -- the indices of a key: of the container's lower corner
 unfoldable pub pivots : List ℕ → ℕ → List ℕ

@@ -1,14 +1,15 @@
 -- Module 3: the divisions along each axis.
 -- Assumes nothing.
 use Prim.Native.Nat.{ℕ, suc, max}
-use mathlib.Core.Bool.{Bool, cond}
+use mathlib.Core.Bool.{Bool, cond, _&&_}
 use mathlib.Core.List.{List, [], _∷_}
-use lib.Dec.{eqb}
+use lib.Dec.{eqb, leb}
 use lib.ListN.{take, getD}
 use lib.Ieee.{Float, lt}
 use Rattle.floats.specs.Rounded.{_⊗_, _⊘_, ofNat, truncate, zeroF}
 use Rattle.geometry.specs.Distances.{from}
 use Rattle.grid.specs.declared.Divisions.{Divisions}
+use Rattle.grid.specs.declared.Longest.{Longest}
 
 -- the divisions along the first n axes
 abbrev pub counts : ℕ → Divisions → List ℕ
@@ -18,16 +19,20 @@ counts n d = take n (d .x ∷ d .y ∷ d .z ∷ [])
 abbrev pub divisionsOf : List ℕ → Divisions
 divisionsOf l = record { x = getD l 0 1; y = getD l 1 1; z = getD l 2 1 }
 
--- an axis and its length
-pub record Longest : Type 0 where
-  pub axis : ℕ
-  pub delta : Float
+-- divisions that a sheet or an index may have along an axis: 1 to 1,024
+abbrev pub division : ℕ → Bool
+division n = leb 1 n && leb n 1024
+
+-- of two axes with their lengths the longer one, and the one found first where they are equal
+unfoldable pub longer : Longest → ℕ → Float → Longest
+unfolding lt
+longer best i d = cond (lt (best .delta) d) (record { axis = i; delta = d }) best
 
 -- the first longest of the axes from i on and of the one found so far
 unfoldable pub longestFrom : Longest → ℕ → List Float → Longest
-unfolding lt
+unfolding longer
 longestFrom best i [] = best
-longestFrom best i (d ∷ ds) = longestFrom (cond (lt (best .delta) d) (record { axis = i; delta = d }) best) (suc i) ds
+longestFrom best i (d ∷ ds) = longestFrom (longer best i d) (suc i) ds
 
 unfoldable pub longest : List Float → Longest
 unfolding longestFrom

@@ -1,9 +1,16 @@
 // Modules 3 and 4: how a box is divided into containers, which container a position falls into, and a container's
 // centre. From gemlab's `util/num_divisions.rs`, `util/calc_container_key.rs` and the methods of `GridSearch`.
+ghost use Prim.Native.Nat.{ℕ, _+_, _*_, _^_, _≤_, _<_};
 ghost use mathlib.Core.Path.{_≡_};
-ghost use Rattle.geometry.specs.Position.{coords};
-ghost use Rattle.grid.specs.Divisions.{counts, divisionsOf, numDivisions};
-ghost use Rattle.grid.specs.Containers.{outside, ratios, exceed, keyOf, containers, pivots, centre};
+ghost use mathlib.Core.Bool.{true, _||_};
+ghost use lib.Ieee.{lt};
+ghost use Rattle.basics.specs.Lists.{all};
+ghost use Rattle.floats.specs.Rounded.{_⊕_, _⊖_, _⊗_, _⊘_, ofNat, truncate, pow2};
+ghost use Rattle.geometry.specs.Position.{coords, positionOf, dimension};
+ghost use Rattle.grid.specs.Divisions.{counts, divisionsOf, division, longer as longerOf, longest as longestOf, share as shareOf, numDivisions};
+ghost use Rattle.grid.specs.Containers.{outside, inner as innerOf, combine, located, containers, indices, pivots, centre};
+ghost use Rattle.grid.specs.Keys.{Below};
+use geometry::Position;
 
 // The number of a container.
 pub struct ContainerKey(pub u64);
@@ -13,4 +20,225 @@ pub struct Divisions {
     pub x: u64,
     pub y: u64,
     pub z: u64,
+}
+
+// The longest axis found so far, and its length.
+pub struct Longest {
+    pub axis: usize,
+    pub delta: f64,
+}
+
+// The container that a position falls into, or that a ratio exceeds its divisions.
+pub enum Located {
+    Key(ContainerKey),
+    Exceeds,
+}
+
+// The indices of a container along each axis.
+pub struct Pivot {
+    pub i: u64,
+    pub j: u64,
+    pub k: u64,
+}
+
+// The longest axis so far, or this one where it is longer.
+fn longer(best: Longest, axis: usize, delta: f64) -> Longest
+    ensures { λ r. ⌜ r ≡ longerOf best axis delta ⌝ }
+{
+    if delta > best.delta {
+        Longest { axis, delta }
+    } else {
+        best
+    }
+}
+
+// The first longest axis.
+fn longest_axis(ndim: usize, delta: Position) -> Longest
+    requires { ⌜ dimension ndim ≡ true ⌝ }
+    ensures { λ r. ⌜ r ≡ longestOf (coords ndim delta) ⌝ }
+{
+    let first = Longest {
+        axis: 0,
+        delta: delta.x,
+    };
+    let best = longer(first, 1, delta.y);
+    if ndim == 2 {
+        return best;
+    }
+    longer(best, 2, delta.z)
+}
+
+// The divisions along an axis: all along the longest, and as many as its length allows along another, but 1 at least.
+fn share(ndiv_long: u64, long: Longest, axis: usize, delta: f64) -> u64
+    requires { ⌜ «ndiv_long» ≤ 1024 ⌝ }
+    ensures { λ r. ⌜ r ≡ shareOf «ndiv_long» long axis delta ⌝ }
+{
+    if axis == long.axis {
+        return ndiv_long;
+    }
+    let n = floats::truncated((delta / long.delta) * (ndiv_long as f64));
+    if n < 1 {
+        return 1;
+    }
+    n
+}
+
+// The divisions of a box whose longest axis has `ndiv_long` of them.
+pub fn num_divisions(ndim: usize, ndiv_long: u64, xmin: Position, xmax: Position) -> Divisions
+    requires { ⌜ dimension ndim ≡ true ⌝ ∗ ⌜ «ndiv_long» ≤ 1024 ⌝ }
+    ensures { λ r. ⌜ r ≡ divisionsOf (numDivisions «ndiv_long» (coords ndim xmin) (coords ndim xmax)) ⌝ }
+{
+    let delta = Position {
+        x: xmax.x - xmin.x,
+        y: xmax.y - xmin.y,
+        z: xmax.z - xmin.z,
+    };
+    let long = longest_axis(ndim, delta);
+    let x = share(ndiv_long, long, 0, delta.x);
+    let y = share(ndiv_long, long, 1, delta.y);
+    if ndim == 2 {
+        return Divisions { x, y, z: 1 };
+    }
+    let z = share(ndiv_long, long, 2, delta.z);
+    Divisions { x, y, z }
+}
+
+// Whether x lies below the low end or above the high one.
+fn is_beyond(xmin: f64, xmax: f64, x: f64) -> bool
+    ensures { λ r. ⌜ r ≡ (lt x xmin || lt xmax x) ⌝ }
+{
+    if x < xmin {
+        return true;
+    }
+    x > xmax
+}
+
+// Whether a position is outside the box on some axis.
+pub fn is_outside(ndim: usize, xmin: Position, xmax: Position, x: Position) -> bool
+    requires { ⌜ dimension ndim ≡ true ⌝ }
+    ensures { λ r. ⌜ r ≡ outside (coords ndim xmin) (coords ndim xmax) (coords ndim x) ⌝ }
+{
+    if is_beyond(xmin.x, xmax.x, x.x) {
+        return true;
+    }
+    if is_beyond(xmin.y, xmax.y, x.y) {
+        return true;
+    }
+    if ndim == 2 {
+        return false;
+    }
+    is_beyond(xmin.z, xmax.z, x.z)
+}
+
+// How many whole sides x lies above the low end.
+fn ratio(side_length: f64, xmin: f64, x: f64) -> u64
+    ensures { λ r. ⌜ r ≡ truncate ((x ⊖ xmin) ⊘ «side_length») ⌝ }
+{
+    floats::truncated((x - xmin) / side_length)
+}
+
+// The index of a ratio that does not exceed its divisions: on the high edge the last one.
+fn inner(n: u64, ratio: u64) -> u64
+    requires { ⌜ 1 ≤ n ⌝ ∗ ⌜ ratio ≤ n ⌝ }
+    ensures { λ r. ⌜ r ≡ innerOf n ratio ⌝ ∗ ⌜ r < n ⌝ }
+{
+    if ratio == n { ratio - 1 } else { ratio }
+}
+
+// The key of the container with these indices.
+fn combined(ndim: usize, ndiv: Divisions, pivot: Pivot) -> u64
+    requires { ⌜ dimension ndim ≡ true ⌝ ∗ ⌜ all division (counts ndim ndiv) ≡ true ⌝ ∗ ⌜ Below (counts ndim ndiv) (indices ndim pivot) ⌝ }
+    ensures { λ r. ⌜ r ≡ combine (counts ndim ndiv) (indices ndim pivot) ⌝ }
+{
+    let key = pivot.i + pivot.j * ndiv.x;
+    if ndim == 2 {
+        return key;
+    }
+    key + pivot.k * ndiv.x * ndiv.y
+}
+
+// The container that a position falls into.
+pub fn calc_container_key(
+    ndim: usize,
+    side_length: f64,
+    ndiv: Divisions,
+    xmin: Position,
+    x: Position,
+) -> Located
+    requires { ⌜ dimension ndim ≡ true ⌝ ∗ ⌜ all division (counts ndim ndiv) ≡ true ⌝ }
+    ensures { λ r. ⌜ r ≡ located (counts ndim ndiv) «side_length» (coords ndim xmin) (coords ndim x) ⌝ }
+{
+    let rx = ratio(side_length, xmin.x, x.x);
+    if rx > ndiv.x {
+        return Located::Exceeds;
+    }
+    let ry = ratio(side_length, xmin.y, x.y);
+    if ry > ndiv.y {
+        return Located::Exceeds;
+    }
+    let i = inner(ndiv.x, rx);
+    let j = inner(ndiv.y, ry);
+    if ndim == 2 {
+        return Located::Key(ContainerKey(combined(ndim, ndiv, Pivot { i, j, k: 0 })));
+    }
+    let rz = ratio(side_length, xmin.z, x.z);
+    if rz > ndiv.z {
+        return Located::Exceeds;
+    }
+    let k = inner(ndiv.z, rz);
+    Located::Key(ContainerKey(combined(ndim, ndiv, Pivot { i, j, k })))
+}
+
+// How many containers there are.
+pub fn container_count(ndim: usize, ndiv: Divisions) -> u64
+    requires { ⌜ dimension ndim ≡ true ⌝ ∗ ⌜ all division (counts ndim ndiv) ≡ true ⌝ }
+    ensures { λ r. ⌜ r ≡ containers (counts ndim ndiv) ⌝ }
+{
+    let n = ndiv.x * ndiv.y;
+    if ndim == 2 {
+        return n;
+    }
+    n * ndiv.z
+}
+
+// The indices of a container. In 2D the third is 0.
+pub fn pivot_indices(ndim: usize, ndiv: Divisions, key: ContainerKey) -> Pivot
+    requires { ⌜ dimension ndim ≡ true ⌝ ∗ ⌜ all division (counts ndim ndiv) ≡ true ⌝ ∗ ⌜ key .0 < containers (counts ndim ndiv) ⌝ }
+    ensures { λ r. ⌜ indices ndim r ≡ pivots (counts ndim ndiv) (key .0) ⌝ }
+{
+    let n = ndiv.x * ndiv.y;
+    Pivot {
+        i: key.0 % ndiv.x,
+        j: (key.0 % n) / ndiv.x,
+        k: key.0 / n,
+    }
+}
+
+// The middle of the container with index i along an axis.
+fn middle(side_length: f64, xmin: f64, i: u64) -> f64
+    requires { ⌜ i ≤ 2 ^ 53 ⌝ }
+    ensures { λ r. ⌜ r ≡ xmin ⊕ ofNat i ⊗ «side_length» ⊕ «side_length» ⊘ pow2 1 ⌝ }
+{
+    xmin + (i as f64) * side_length + side_length / 2.0
+}
+
+// The centre of a container.
+pub fn container_center(
+    ndim: usize,
+    side_length: f64,
+    ndiv: Divisions,
+    xmin: Position,
+    key: ContainerKey,
+) -> Position
+    requires { ⌜ dimension ndim ≡ true ⌝ ∗ ⌜ all division (counts ndim ndiv) ≡ true ⌝ ∗ ⌜ key .0 < containers (counts ndim ndiv) ⌝ }
+    ensures { λ r. ⌜ r ≡ positionOf (centre «side_length» (coords ndim xmin) (pivots (counts ndim ndiv) (key .0))) ⌝ }
+{
+    let pivot = pivot_indices(ndim, ndiv, key);
+    let x = middle(side_length, xmin.x, pivot.i);
+    let y = middle(side_length, xmin.y, pivot.j);
+    if ndim == 2 {
+        return Position { x, y, z: 0.0 };
+    }
+    let z = middle(side_length, xmin.z, pivot.k);
+    Position { x, y, z }
 }
