@@ -1,0 +1,16 @@
+#!/bin/sh
+# compare/run.sh [PART..]: builds the static libraries and the comparison, and runs it.
+# GEMLAB_SRC names the folder of gemlab's source, where that is not ../shared/docs/src from the repository's root.
+set -eu
+cd "$(dirname "$0")/.."
+for name in probe capi; do
+    if grep -q "^$name:" crates.txt; then
+        said=$(rt staticlib "$name" 2>&1) || {
+            echo "$said"
+            exit 1
+        }
+    fi
+done
+cd compare
+cargo build --release --offline --quiet
+exec target/release/compare "$@"

@@ -1,0 +1,34 @@
+//! Runs the library beside gemlab's Rust and tells each difference. Arguments name parts; without any, every part that
+//! compares is run. `bench-..` are parts that measure, and are run only by name.
+//!
+//! A part is a file of its own and a line of `PARTS`.
+
+mod floats;
+mod near;
+mod random;
+mod tally;
+mod timing;
+
+use std::process::ExitCode;
+use tally::Tally;
+
+const PARTS: &[(&str, fn(&mut Tally))] = &[("floats", floats::compare), ("bench-floats", floats::measure)];
+
+fn main() -> ExitCode {
+    let mut names: Vec<String> = std::env::args().skip(1).collect();
+    if names.is_empty() {
+        names = PARTS.iter().map(|part| part.0.to_string()).filter(|name| !name.starts_with("bench-")).collect();
+    }
+    let mut failed = false;
+    for name in &names {
+        let Some(part) = PARTS.iter().find(|part| part.0 == name) else {
+            let known: Vec<_> = PARTS.iter().map(|part| part.0).collect();
+            eprintln!("compare: no part {name}; there are {}", known.join(", "));
+            return ExitCode::from(2);
+        };
+        let mut tally = Tally::new(name);
+        part.1(&mut tally);
+        failed |= !tally.report();
+    }
+    ExitCode::from(failed as u8)
+}

@@ -1,0 +1,35 @@
+//! Times of small functions, measured side by side in one run.
+
+use std::hint::black_box;
+use std::time::Instant;
+
+/// Nanoseconds for a call of f on each of xs: the best of several rounds, once with calls that may overlap and once where
+/// each call waits for the last.
+pub fn per_call(f: extern "C" fn(f64) -> f64, xs: &[f64]) -> (f64, f64) {
+    const ROUNDS: usize = 15;
+    const TURNS: usize = 40;
+    let n = (TURNS * xs.len()) as f64;
+    let (mut apart, mut chained) = (f64::INFINITY, f64::INFINITY);
+    for _ in 0..ROUNDS {
+        let start = Instant::now();
+        let mut sum = 0.0;
+        for _ in 0..TURNS {
+            for x in xs {
+                sum += f(*x);
+            }
+        }
+        black_box(sum);
+        apart = apart.min(start.elapsed().as_nanos() as f64 / n);
+
+        let start = Instant::now();
+        let mut last = 0.0;
+        for _ in 0..TURNS {
+            for x in xs {
+                last = f(*x + last * 0.0);
+            }
+        }
+        black_box(last);
+        chained = chained.min(start.elapsed().as_nanos() as f64 / n);
+    }
+    (apart, chained)
+}
