@@ -8,7 +8,8 @@ use mathlib.Core.Option.{Option, none, some}
 use lib.ListN.{length, getD, drop, set}
 use lib.Dec.{ltb, leb, eqb}
 use lib.Ieee.{Float, nan}
-use Rattle.basics.specs.Lists.{tab}
+use Rattle.basics.specs.Lists.{tab, keep}
+use Rattle.geometry.specs.declared.Position.{Position}
 use Rattle.table.specs.declared.Row.{Row}
 
 -- ---- slots: what the rows are ordered by
@@ -92,6 +93,25 @@ putRow r [] = r ∷ []
 putRow r (s ∷ rest) =
     cond (before (slotOf s) (slotOf r)) (s ∷ putRow r rest)
     (cond (same (slotOf s) (slotOf r)) (r ∷ rest) (r ∷ s ∷ rest))
+
+-- a mark's row in the container of a key
+abbrev pub rowIn : ℕ → Position → ℕ → Row
+rowIn i p k = record { key = record { 0 = k }; id = record { 0 = i }; at = p }
+
+-- a mark's row in each of several containers, one after the other
+unfoldable pub putIn : ℕ → Position → List ℕ → List Row → List Row
+unfolding putRow
+putIn i p [] rows = rows
+putIn i p (k ∷ ks) rows = putIn i p ks (putRow (rowIn i p k) rows)
+
+-- the rows of one id
+unfoldable pub own : ℕ → List Row → List Row
+unfolding keep
+own i rows = keep (λ (r : Row). eqb (idIn r) i) rows
+
+-- n is the number of rows once a mark of this id is in each of the containers, wherever it stands and the other marks stand
+abbrev pub CountAfter : List ℕ → List ℕ → ℕ → ℕ → List ℕ → ℕ → Type 0
+CountAfter keys ids used i ks n = (p : Position) (xs ys zs : List Float) → n ≡ length (putIn i p ks (rowsOf keys ids xs ys zs used))
 
 -- the row of a slot, if there is one
 unfoldable pub rowFor : Slot → List Row → Option Row

@@ -1,0 +1,227 @@
+-- Rows in strict order are known by the row of each slot. What is in the table after a mark's stores, and what they do to the rows of one id.
+-- Assumes nothing.
+use Prim.Native.Nat.{ℕ, _≤_, _<_}
+use native.Mathlib.Omega.{arith}
+use mathlib.Core.Path.{_≡_, refl, sym, ap, ap₂, _∙_, subst}
+use mathlib.Core.Bool.{Bool, true, false, _&&_, _||_, cond}
+use mathlib.Core.Logic.{_⊎_, inl, inr, ⊎-elim}
+use mathlib.Core.List.{List, [], _∷_, map, List·Memᴰ, List·Memᴰ·head, List·Memᴰ·tail, List·Memᴰ·cases-cons, List·Memᴰ·not-nil}
+use mathlib.Core.Option.{Option, none, some}
+use lib.Dec.{eqb}
+use lib.ListN.{length}
+use borrow.Author.Tests.{eq-eqb, eqb-true}
+use Rattle.basics.specs.Bools.{by-test, clash, both, and-both}
+use Rattle.basics.specs.Lists.{all, keep, has}
+use Rattle.basics.specs.Laws.{length-keep}
+use Rattle.geometry.specs.declared.Position.{Position}
+use Rattle.table.specs.declared.Row.{Row}
+use Rattle.table.specs.Rows.{Slot, slotted, slotOf, before, same, chain, sorted, keyIn, idIn, rowIn, putRow, putIn, own, rowFor}
+use Rattle.table.proofs.Order.{before-trans, before-irrefl, before-total, same-eq, chain-sorted}
+use Rattle.table.proofs.Meaning.{sorted-put, rowFor-put}
+use Rattle.table.proofs.All.{sorted-all}
+
+pub same-self : (p : Slot) → same p p ≡ true
+unfolding same
+same-self p = rw (eq-eqb (p .key) (p .key) refl, eq-eqb (p .id) (p .id) refl)
+
+after-not-same : (p q : Slot) → before p q ≡ true → same q p ≡ false
+after-not-same p q b = by-test (same q p) (λ g. clash (subst (λ (r : Slot). before p r ≡ true) (same-eq q p g) b) (before-irrefl p)) (λ g. g)
+
+not-same : (p q : Slot) → before p q ≡ true → same p q ≡ false
+not-same p q b = by-test (same p q) (λ g. clash (subst (λ (r : Slot). before r q ≡ true) (same-eq p q g) b) (before-irrefl q)) (λ g. g)
+
+chain-down : (p q : Slot) (qs : List Slot) → before p q ≡ true → chain q qs ≡ true → chain p qs ≡ true
+unfolding chain
+chain-down p q [] b e = refl
+chain-down p q (s ∷ qs) b e = let d = and-both (before q s) (chain s qs) e in both (before-trans p q s b (d .0)) (d .1)
+
+chain-none : (p : Slot) (rows : List Row) → chain p (map slotOf rows) ≡ true → rowFor p rows ≡ none
+unfolding chain rowFor
+chain-none p [] e = refl
+chain-none p (s ∷ rest) e =
+    let d = and-both (before p (slotOf s)) (chain (slotOf s) (map slotOf rest)) e in
+    rw (after-not-same p (slotOf s) (d .0)) (chain-none p rest (chain-down p (slotOf s) (map slotOf rest) (d .0) (d .1)))
+
+here : (r : Row) (rest : List Row) → rowFor (slotOf r) (r ∷ rest) ≡ some r
+unfolding rowFor
+here r rest = rw (same-self (slotOf r))
+
+empty : (p : Slot) → rowFor p [] ≡ none
+unfolding rowFor
+empty p = refl
+
+none-some : {r : Row} {o : Option Row} → o ≡ none → o ≡ some r → ⊥
+none-some e f = let z : _≡_ {A = ℕ} 0 1 = cc in omega arith
+
+-- the rest has the same rows by slot, where the first row is the same
+rest-same : (r : Row) (rs ss : List Row) → chain (slotOf r) (map slotOf rs) ≡ true → chain (slotOf r) (map slotOf ss) ≡ true
+    → ((p : Slot) → rowFor p (r ∷ rs) ≡ rowFor p (r ∷ ss)) → (p : Slot) → rowFor p rs ≡ rowFor p ss
+unfolding rowFor
+rest-same r rs ss d e h p =
+    by-test (same (slotOf r) p)
+    (λ g. let q = same-eq (slotOf r) p g in subst (λ (k : Slot). rowFor k rs ≡ rowFor k ss) q (chain-none (slotOf r) rs d ∙ sym (chain-none (slotOf r) ss e)))
+    (λ g. rw g at (h p))
+
+pub rows-ext : (rs ss : List Row) → sorted (map slotOf rs) ≡ true → sorted (map slotOf ss) ≡ true → ((p : Slot) → rowFor p rs ≡ rowFor p ss) → rs ≡ ss
+unfolding sorted chain
+rows-ext [] [] d e h = refl
+rows-ext [] (s ∷ ss) d e h = absurd (none-some (empty (slotOf s)) (h (slotOf s) ∙ here s ss))
+rows-ext (r ∷ rs) [] d e h = absurd (none-some (empty (slotOf r)) (sym (h (slotOf r)) ∙ here r rs))
+rows-ext (r ∷ rs) (s ∷ ss) d e h =
+    by-test (before (slotOf r) (slotOf s))
+    (λ b. absurd (none-some (chain-none (slotOf r) (s ∷ ss) (both b e)) (sym (h (slotOf r)) ∙ here r rs)))
+    (λ b. by-test (same (slotOf r) (slotOf s))
+    (λ g.
+    let k : some r ≡ some s = sym (here r rs) ∙ h (slotOf r) ∙ ap (λ (p : Slot). rowFor p (s ∷ ss)) (same-eq _ _ g) ∙ here s ss in
+    let q : r ≡ s = cc in
+    let e′ : chain (slotOf r) (map slotOf ss) ≡ true = rw q e in
+    let h′ : (p : Slot) → rowFor p (r ∷ rs) ≡ rowFor p (r ∷ ss) = λ p. h p ∙ ap (λ (t : Row). rowFor p (t ∷ ss)) (sym q) in
+    ap₂ (λ (t : Row) (l : List Row). t ∷ l) q (rows-ext rs ss (chain-sorted (slotOf r) (map slotOf rs) d) (chain-sorted (slotOf s) (map slotOf ss) e) (rest-same r rs ss d e′ h′)))
+    (λ g. absurd (none-some (chain-none (slotOf s) (r ∷ rs) (both (before-total (slotOf r) (slotOf s) b g) d)) (h (slotOf s) ∙ here s ss))))
+
+chain-mem : (p : Slot) (rows : List Row) {s : Row} → chain p (map slotOf rows) ≡ true → List·Memᴰ s rows → before p (slotOf s) ≡ true
+unfolding chain
+chain-mem p [] e m = absurd (List·Memᴰ·not-nil m)
+chain-mem p (r ∷ rows) {s} e m =
+    let d = and-both (before p (slotOf r)) (chain (slotOf r) (map slotOf rows)) e in
+    ⊎-elim (λ q. rw q (d .0)) (λ h. before-trans p (slotOf r) (slotOf s) (d .0) (chain-mem (slotOf r) rows (d .1) h)) (List·Memᴰ·cases-cons m)
+
+-- ---- what is in the table after a mark's stores
+
+-- the slot is one of the mark's
+abbrev pub marks : ℕ → List ℕ → Slot → Bool
+marks id ks p = eqb id (p .id) && has (p .key) ks
+
+choose : {A : Type 0} (e f h : Bool) (x y r : A) → (f ≡ true → y ≡ x) → cond (e && h) x (cond (f && e) y r) ≡ cond (e && (f || h)) x r
+choose false false h x y r g = refl
+choose false true h x y r g = refl
+choose true false h x y r g = refl
+choose true true false x y r g = g refl
+choose true true true x y r g = refl
+
+no-marks : (e : Bool) → (e && false) ≡ false
+no-marks false = refl
+no-marks true = refl
+
+-- a mark's slot has the mark's row, and any other the row that it had
+pub rowFor-putIn : (id : ℕ) (at : Position) (ks : List ℕ) (rows : List Row) (p : Slot) → rowFor p (putIn id at ks rows) ≡ cond (marks id ks p) (some (rowIn id at (p .key))) (rowFor p rows)
+unfolding putIn has same
+rowFor-putIn id at [] rows p = rw (no-marks (eqb id (p .id)))
+rowFor-putIn id at (k ∷ ks) rows p =
+    rowFor-putIn id at ks (putRow (rowIn id at k) rows) p
+    ∙ ap (cond (marks id ks p) (some (rowIn id at (p .key)))) (rowFor-put p (rowIn id at k) rows)
+    ∙ choose (eqb id (p .id)) (eqb k (p .key)) (has (p .key) ks) (some (rowIn id at (p .key))) (some (rowIn id at k)) (rowFor p rows) (λ f. ap (λ (j : ℕ). some (rowIn id at j)) (eqb-true k (p .key) f))
+
+-- in rows in strict order, a row is there exactly if it is its slot's
+pub mem-rowFor : (rows : List Row) {s : Row} → sorted (map slotOf rows) ≡ true → List·Memᴰ s rows → rowFor (slotOf s) rows ≡ some s
+unfolding sorted rowFor
+mem-rowFor [] o m = absurd (List·Memᴰ·not-nil m)
+mem-rowFor (r ∷ rows) {s} o m =
+    ⊎-elim (λ e. ap (λ (t : Row). rowFor (slotOf t) (r ∷ rows)) e ∙ here r rows ∙ ap some (sym e))
+    (λ h. let b : before (slotOf r) (slotOf s) ≡ true = chain-mem (slotOf r) rows {s = s} o h in rw (not-same (slotOf r) (slotOf s) b) (mem-rowFor rows (chain-sorted (slotOf r) (map slotOf rows) o) h))
+    (List·Memᴰ·cases-cons m)
+
+pub rowFor-mem : (rows : List Row) (p : Slot) {s : Row} → rowFor p rows ≡ some s → List·Memᴰ s rows
+unfolding rowFor
+rowFor-mem [] p {s} e = absurd (none-some {r = s} refl e)
+rowFor-mem (r ∷ rows) p {s} e =
+    by-test (same (slotOf r) p)
+    (λ g. let h : some r ≡ some s = rw g at e in let q : s ≡ r = cc in List·Memᴰ·head q)
+    (λ g. List·Memᴰ·tail (rowFor-mem rows p (rw g at e)))
+
+-- a row is there exactly if it is one of the mark's, or was there and was not replaced
+module _ (id : ℕ) (at : Position) (ks : List ℕ) (rows : List Row) (o : sorted (map slotOf rows) ≡ true) where
+  pub mem-putIn : (s : Row) → List·Memᴰ s (putIn id at ks rows) → ((marks id ks (slotOf s) ≡ true) × (s ≡ rowIn id at (keyIn s))) ⊎ ((marks id ks (slotOf s) ≡ false) × List·Memᴰ s rows)
+  mem-putIn s m =
+      let e : some s ≡ cond (marks id ks (slotOf s)) (some (rowIn id at (keyIn s))) (rowFor (slotOf s) rows) = sym (mem-rowFor (putIn id at ks rows) (sorted-all id at ks rows o) m) ∙ rowFor-putIn id at ks rows (slotOf s) in
+      by-test (marks id ks (slotOf s))
+      (λ g. let f : some s ≡ some (rowIn id at (keyIn s)) = rw g at e in let q : s ≡ rowIn id at (keyIn s) = cc in inl (g, q))
+      (λ g. inr (g, rowFor-mem rows (slotOf s) (sym (rw g at e))))
+
+  pub putIn-mark : (k : ℕ) → has k ks ≡ true → List·Memᴰ (rowIn id at k) (putIn id at ks rows)
+  putIn-mark k h = rowFor-mem (putIn id at ks rows) (slotted k id) (rowFor-putIn id at ks rows (slotted k id) ∙ rw (eq-eqb id id refl, h))
+
+  pub putIn-rest : (s : Row) → marks id ks (slotOf s) ≡ false → List·Memᴰ s rows → List·Memᴰ s (putIn id at ks rows)
+  putIn-rest s g m = rowFor-mem (putIn id at ks rows) (slotOf s) (rowFor-putIn id at ks rows (slotOf s) ∙ rw g (mem-rowFor rows o m))
+
+-- ---- a test that holds of each row
+
+module _ (good : Row → Bool) where
+  pub all-put : (r : Row) (rows : List Row) → good r ≡ true → all good rows ≡ true → all good (putRow r rows) ≡ true
+  unfolding all putRow
+  all-put r [] g a = both g refl
+  all-put r (s ∷ rows) g a =
+      let d = and-both (good s) (all good rows) a in
+      by-test (before (slotOf s) (slotOf r)) (λ b. rw b (both (d .0) (all-put r rows g (d .1))))
+      (λ b. by-test (same (slotOf s) (slotOf r)) (λ h. rw (b, h) (both g (d .1))) (λ h. rw (b, h) (both g a)))
+
+  pub all-putIn : (id : ℕ) (at : Position) (ks : List ℕ) (rows : List Row) → all (λ (k : ℕ). good (rowIn id at k)) ks ≡ true → all good rows ≡ true → all good (putIn id at ks rows) ≡ true
+  unfolding all putIn
+  all-putIn id at [] rows g a = a
+  all-putIn id at (k ∷ ks) rows g a =
+      let d = and-both (good (rowIn id at k)) (all (λ (j : ℕ). good (rowIn id at j)) ks) g in
+      all-putIn id at ks (putRow (rowIn id at k) rows) (d .1) (all-put (rowIn id at k) rows (d .0) a)
+
+-- ---- the rows of one id
+
+module _ (i : ℕ) where
+  pub length-own : (rows : List Row) → length (own i rows) ≤ length rows
+  unfolding own
+  length-own rows = length-keep (λ (r : Row). eqb (idIn r) i) rows
+
+  chain-own : (p : Slot) (rows : List Row) → chain p (map slotOf rows) ≡ true → chain p (map slotOf (own i rows)) ≡ true
+  unfolding own keep chain
+  chain-own p [] e = refl
+  chain-own p (s ∷ rows) e =
+      let d = and-both (before p (slotOf s)) (chain (slotOf s) (map slotOf rows)) e in
+      by-test (eqb (idIn s) i) (λ f. rw f (both (d .0) (chain-own (slotOf s) rows (d .1))))
+      (λ f. rw f (chain-own p rows (chain-down p (slotOf s) (map slotOf rows) (d .0) (d .1))))
+
+  pub sorted-own : (rows : List Row) → sorted (map slotOf rows) ≡ true → sorted (map slotOf (own i rows)) ≡ true
+  unfolding own keep sorted
+  sorted-own [] e = refl
+  sorted-own (s ∷ rows) e =
+      by-test (eqb (idIn s) i) (λ f. rw f (chain-own (slotOf s) rows e)) (λ f. rw f (sorted-own rows (chain-sorted (slotOf s) (map slotOf rows) e)))
+
+  -- another id's row changes nothing
+  other-put : (r : Row) (rows : List Row) → eqb (idIn r) i ≡ false → own i (putRow r rows) ≡ own i rows
+  unfolding own keep putRow
+  other-put r [] e = rw e
+  other-put r (s ∷ rows) e =
+      by-test (before (slotOf s) (slotOf r)) (λ b. rw (b, other-put r rows e))
+      (λ b. by-test (same (slotOf s) (slotOf r))
+      (λ g. let f : eqb (idIn s) i ≡ false = ap (λ (p : Slot). eqb (p .id) i) (same-eq (slotOf s) (slotOf r) g) ∙ e in rw (b, g, e, f))
+      (λ g. rw (b, g, e)))
+
+  front : (r : Row) (rows : List Row) → chain (slotOf r) (map slotOf rows) ≡ true → putRow r rows ≡ r ∷ rows
+  unfolding chain putRow
+  front r [] e = refl
+  front r (s ∷ rows) e =
+      let b = and-both (before (slotOf r) (slotOf s)) (chain (slotOf s) (map slotOf rows)) e .0 in
+      by-test (before (slotOf s) (slotOf r))
+      (λ c. clash (before-trans (slotOf r) (slotOf s) (slotOf r) b c) (before-irrefl (slotOf r)))
+      (λ c. rw (c, after-not-same (slotOf r) (slotOf s) b))
+
+  -- the id's own row goes among its own rows
+  own-put : (r : Row) (rows : List Row) → eqb (idIn r) i ≡ true → sorted (map slotOf rows) ≡ true → own i (putRow r rows) ≡ putRow r (own i rows)
+  unfolding own keep putRow sorted
+  own-put r [] e o = rw e
+  own-put r (s ∷ rows) e o =
+      by-test (before (slotOf s) (slotOf r))
+      (λ b.
+      let ih = own-put r rows e (chain-sorted (slotOf s) (map slotOf rows) o) in
+      by-test (eqb (idIn s) i) (λ f. rw (b, f, b, ih)) (λ f. rw (b, f, ih)))
+      (λ b. by-test (same (slotOf s) (slotOf r))
+      (λ g. let f : eqb (idIn s) i ≡ true = ap (λ (p : Slot). eqb (p .id) i) (same-eq (slotOf s) (slotOf r) g) ∙ e in rw (b, g, e, f, b, g))
+      (λ g. rw (b, g, e) (sym (front r (own i (s ∷ rows)) (chain-own (slotOf r) (s ∷ rows) (unfold chain in both (before-total (slotOf s) (slotOf r) b g) o))))))
+
+  -- a mark's stores leave the rows of other ids, and do to its own rows what they would do to them alone
+  pub other-putIn : (id : ℕ) (at : Position) (ks : List ℕ) (rows : List Row) → eqb id i ≡ false → own i (putIn id at ks rows) ≡ own i rows
+  unfolding putIn
+  other-putIn id at [] rows e = refl
+  other-putIn id at (k ∷ ks) rows e = other-putIn id at ks (putRow (rowIn id at k) rows) e ∙ other-put (rowIn id at k) rows e
+
+  pub own-putIn : (id : ℕ) (at : Position) (ks : List ℕ) (rows : List Row) → eqb id i ≡ true → sorted (map slotOf rows) ≡ true → own i (putIn id at ks rows) ≡ putIn id at ks (own i rows)
+  unfolding putIn
+  own-putIn id at [] rows e o = refl
+  own-putIn id at (k ∷ ks) rows e o = own-putIn id at ks (putRow (rowIn id at k) rows) e (sorted-put (rowIn id at k) rows o) ∙ ap (putIn id at ks) (own-put (rowIn id at k) rows e o)
