@@ -36,7 +36,17 @@ unfoldable pub answer : {A : Type 0} → Option ℕ → A → Answer A
 answer none a = success a
 answer (some n) a = refused n
 
+-- a value worked on further, where there is one
+abbrev pub through : {A B : Type 0} → (A → B) → Answer A → Answer B
+through f (refused n) = refused n
+through f (success a) = success (f a)
+
 -- ---- laws
+
+pub through-answer : {A B : Type 0} (f : A → B) (o : Option ℕ) (a : A) → through f (answer o a) ≡ answer o (f a)
+unfolding answer
+through-answer f none a = refl
+through-answer f (some n) a = refl
 
 abbrev pub Passed : List Test → Type 0
 Passed [] = Unit {0}

@@ -3,3 +3,4 @@ pub mod Position
 pub mod Distances
 pub mod Cells
 pub mod Axes
+pub mod Examples

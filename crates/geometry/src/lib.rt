@@ -3,10 +3,14 @@
 // `triangle.rs` and `tetrahedron.rs`.
 ghost use Prim.Native.Nat.{ℕ};
 ghost use mathlib.Core.Path.{_≡_};
-ghost use mathlib.Core.Bool.{true};
-ghost use lib.ListN.{getD};
+ghost use mathlib.Core.Bool.{true, _&&_};
+ghost use mathlib.Core.List.{[], _∷_};
+ghost use lib.Dec.{eqb};
+ghost use lib.Ieee.{Float};
+ghost use lib.ListN.{length, getD};
 ghost use Rattle.basics.specs.Lists.{all};
-ghost use Rattle.floats.specs.Rounded.{zeroF};
+ghost use Rattle.basics.specs.Refusals.{refuse, fault, answer, through};
+ghost use Rattle.floats.specs.Rounded.{_⊖_, zeroF};
 ghost use Rattle.geometry.specs.Position.{coords, positionOf, axisOf, dimension, coordinate};
 ghost use Rattle.geometry.specs.Distances.{less, lineOf, dot as dotOf, pointPoint, tooClose, pointLine};
 ghost use Rattle.geometry.specs.Distances.{measured, pointPointAnswer, pointLineAnswer, pointCircleAnswer, pointCylinderAnswer};
@@ -78,7 +82,7 @@ impl Position {
 pub fn is_dimension(ndim: usize) -> bool
     ensures { λ r. ⌜ r ≡ dimension ndim ⌝ }
 {
-    ndim == 2 || ndim == 3
+    (ndim == 2) | (ndim == 3)
 }
 
 // Whether x may be a coordinate or a radius: finite, of magnitude at most 2^20.
@@ -107,7 +111,7 @@ pub fn position_ok(ndim: usize, p: Position) -> bool
     requires { ⌜ dimension ndim ≡ true ⌝ }
     ensures { λ r. ⌜ r ≡ all coordinate (coords ndim p) ⌝ }
 {
-    is_coordinate(p.x) && (is_coordinate(p.y) && (ndim == 2 || is_coordinate(p.z)))
+    is_coordinate(p.x) & (is_coordinate(p.y) & ((ndim == 2) | is_coordinate(p.z)))
 }
 
 // b - a
@@ -209,13 +213,34 @@ pub fn point_point_distance(a: &[f64], b: &[f64]) -> Measured
     if b.len() != ndim {
         return Measured::Refused(2);
     }
-    if !all_coordinates(a) {
-        return Measured::Refused(3);
-    }
-    if !all_coordinates(b) {
+    if !(all_coordinates(a) & all_coordinates(b)) {
         return Measured::Refused(3);
     }
     Measured::Distance(point_point(ndim, Position::new(a), Position::new(b)))
+}
+
+// The distance of c to the line through a and b, or the refusal 15.
+fn line_distance(a: &[f64], b: &[f64], c: &[f64]) -> Measured
+    requires { ⌜ dimension (length (now a)) ≡ true ⌝ }
+    requires { ⌜ (eqb (length (now b)) (length (now a)) && eqb (length (now c)) (length (now a))) ≡ true ⌝ }
+    ensures { λ r. ⌜ measured r ≡ answer (fault (refuse 15 (tooClose (now (a .entry)) (now (b .entry))) ∷ [])) (pointLine (now (a .entry)) (now (b .entry)) (now (c .entry))) ⌝ }
+{
+    let ndim = a.len();
+    let line = Line::new(ndim, Position::new(a), Position::new(b));
+    if line.too_close() {
+        return Measured::Refused(15);
+    }
+    Measured::Distance(line.distance(ndim, Position::new(c)))
+}
+
+// The distance to a centre less the radius.
+fn reduced(center: Measured, radius: f64) -> Measured
+    ensures { λ r. ⌜ measured r ≡ through (λ (d : Float). d ⊖ radius) (measured center) ⌝ }
+{
+    match center {
+        Measured::Distance(d) => Measured::Distance(d - radius),
+        Measured::Refused(n) => Measured::Refused(n),
+    }
 }
 
 // The distance of c to the line through a and b, or the refusal 1, 2, 3 or 15.
@@ -226,26 +251,13 @@ pub fn point_line_distance(a: &[f64], b: &[f64], c: &[f64]) -> Measured
     if !is_dimension(ndim) {
         return Measured::Refused(1);
     }
-    if b.len() != ndim {
+    if !((b.len() == ndim) & (c.len() == ndim)) {
         return Measured::Refused(2);
     }
-    if c.len() != ndim {
-        return Measured::Refused(2);
-    }
-    if !all_coordinates(a) {
+    if !(all_coordinates(a) & (all_coordinates(b) & all_coordinates(c))) {
         return Measured::Refused(3);
     }
-    if !all_coordinates(b) {
-        return Measured::Refused(3);
-    }
-    if !all_coordinates(c) {
-        return Measured::Refused(3);
-    }
-    let line = Line::new(ndim, Position::new(a), Position::new(b));
-    if line.too_close() {
-        return Measured::Refused(15);
-    }
-    Measured::Distance(line.distance(ndim, Position::new(c)))
+    line_distance(a, b, c)
 }
 
 // The signed distance of p to a circle in the plane, negative inside, or the refusal 1, 16, 2 or 3.
@@ -262,13 +274,7 @@ pub fn point_circle_distance(center: &[f64], radius: f64, p: &[f64]) -> Measured
     if p.len() != ndim {
         return Measured::Refused(2);
     }
-    if !all_coordinates(center) {
-        return Measured::Refused(3);
-    }
-    if !is_coordinate(radius) {
-        return Measured::Refused(3);
-    }
-    if !all_coordinates(p) {
+    if !(all_coordinates(center) & (is_coordinate(radius) & all_coordinates(p))) {
         return Measured::Refused(3);
     }
     let center_distance = point_point(ndim, Position::new(center), Position::new(p));
@@ -287,30 +293,13 @@ pub fn point_cylinder_distance(a: &[f64], b: &[f64], radius: f64, p: &[f64]) -> 
     if ndim != 3 {
         return Measured::Refused(16);
     }
-    if b.len() != ndim {
+    if !((b.len() == ndim) & (p.len() == ndim)) {
         return Measured::Refused(2);
     }
-    if p.len() != ndim {
-        return Measured::Refused(2);
-    }
-    if !all_coordinates(a) {
+    if !(all_coordinates(a) & (all_coordinates(b) & (is_coordinate(radius) & all_coordinates(p)))) {
         return Measured::Refused(3);
     }
-    if !all_coordinates(b) {
-        return Measured::Refused(3);
-    }
-    if !is_coordinate(radius) {
-        return Measured::Refused(3);
-    }
-    if !all_coordinates(p) {
-        return Measured::Refused(3);
-    }
-    let line = Line::new(ndim, Position::new(a), Position::new(b));
-    if line.too_close() {
-        return Measured::Refused(15);
-    }
-    let center_distance = line.distance(ndim, Position::new(p));
-    Measured::Distance(center_distance - radius)
+    reduced(line_distance(a, b, p), radius)
 }
 
 // The three coordinates of xp in the triangle xa, xb, xc.
@@ -330,7 +319,7 @@ pub fn triangle_coords(xa: Position, xb: Position, xc: Position, xp: Position) -
 pub fn in_triangle(zeta: Zeta) -> bool
     ensures { λ r. ⌜ r ≡ inside zeroF (zetas 3 zeta) ⌝ }
 {
-    !(zeta.0 < 0.0 || (zeta.1 < 0.0 || zeta.2 < 0.0))
+    !((zeta.0 < 0.0) | ((zeta.1 < 0.0) | (zeta.2 < 0.0)))
 }
 
 // The four coordinates of xp in the tetrahedron xa, xb, xc, xd.
@@ -389,5 +378,5 @@ pub fn tetrahedron_coords(
 pub fn in_tetrahedron(zeta: Zeta) -> bool
     ensures { λ r. ⌜ r ≡ inside zeroF (zetas 4 zeta) ⌝ }
 {
-    !(zeta.0 < 0.0 || (zeta.1 < 0.0 || (zeta.2 < 0.0 || zeta.3 < 0.0)))
+    !((zeta.0 < 0.0) | ((zeta.1 < 0.0) | ((zeta.2 < 0.0) | (zeta.3 < 0.0))))
 }

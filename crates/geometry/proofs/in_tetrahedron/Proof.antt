@@ -1,6 +1,5 @@
 -- `geometry::in_tetrahedron` meets its contract. Assumes nothing.
 use mathlib.Core.Bool.{or-false}
-use mathlib.Core.Logic.{⊎-elim}
 use lib.Ieee.{ofBits, lt}
 use Rattle.floats.specs.Rounded.{zeroF}
 use Rattle.geometry.specs.Cells.{inside}
@@ -9,7 +8,7 @@ use Rattle.geometry.proofs.in_tetrahedron.Tie as tie
 
 returns : tie.Need-returns
 unfolding inside ofBits
-returns c = ⊎-elim (λ w. rw (w .1, w .0 .taken)) (⊎-elim (λ w. rw (w .2, w .0 .left, w .1 .taken)) (⊎-elim (λ w. rw (w .3, w .0 .left, w .1 .left, w .2 .taken)) (λ w. rw (w .3, w .0 .left, w .1 .left, w .2 .left, or-false (lt (c .before .args .zeta .3) zeroF))))) (c .if1 .came)
+returns c = rw (or-false (lt (c .before .before .before .before .args .zeta .3) zeroF))
 
 pub in-tetrahedron-spec : {M : Type 1} → statement M
 in-tetrahedron-spec = tie.close (tie.spec returns)

@@ -1,6 +1,7 @@
 -- `geometry::point_circle_distance` meets its contract. Assumes nothing.
-use mathlib.Core.Bool.{true}
+use mathlib.Core.Bool.{true, _&&_}
 use mathlib.Core.Path.{ap₂, _≡_, refl, sym, _∙_}
+use lib.Dec.{eqb}
 use lib.ListN.{length}
 use borrow.Author.Needs.{needs}
 use borrow.Author.Tests.{eq-eqb, ne-eqb, not-true, not-false}
@@ -11,17 +12,20 @@ use Rattle.geometry.specs.Position.{dimension, coordinate}
 use Rattle.geometry.proofs.point_circle_distance.Statement.{statement}
 use Rattle.geometry.proofs.point_circle_distance.Tie as tie
 
-dim : (c : tie.Else1) → dimension (length (c .before .before .before .before .args .center .now)) ≡ true
-dim c = sym (c .before .is-dimension .ensures) ∙ not-false _ (c .if1 .left)
+past-1 : (c : tie.Else1) → dimension (length (c .before .before .before .before .args .center .now)) ≡ true
+past-1 c = sym (c .before .is-dimension .ensures) ∙ not-false _ (c .if1 .left)
 
-all-center : (c : tie.Else4) → all coordinate (c .before .before .before .before .before .before .before .before .args .center .now) ≡ true
-all-center c = sym (c .before .all-coordinates .ensures) ∙ not-false _ (c .if4 .left)
+past-2 : (c : tie.Else2) → eqb (length (c .before .before .before .before .before .args .center .now)) 2 ≡ true
+past-2 c = eq-eqb _ 2 (c .if2 .left)
 
-one-radius : (c : tie.Else5) → coordinate (c .before .before .before .before .before .before .before .before .before .before .args .radius) ≡ true
-one-radius c = sym (c .before .is-coordinate .ensures) ∙ not-false _ (c .if5 .left)
+past-3 : (c : tie.Else3) → let s = c .before .before .before .before .before .before .args in eqb (length (s .p .now)) (length (s .center .now)) ≡ true
+past-3 c = let s = c .before .before .before .before .before .before .args in eq-eqb (length (s .p .now)) (length (s .center .now)) (c .if3 .left)
 
-all-p : (c : tie.Else6) → all coordinate (c .before .before .before .before .before .before .before .before .before .before .before .before .args .p .now) ≡ true
-all-p c = sym (c .before .all-coordinates2 .ensures) ∙ not-false _ (c .if6 .left)
+judged : (c : tie.After-all-coordinates2) → let s = c .before .before .before .before .before .before .before .before .before .args in (c .before .before .all-coordinates .result && (c .before .is-coordinate .result && c .all-coordinates2 .result)) ≡ (all coordinate (s .center .now) && (coordinate (s .radius) && all coordinate (s .p .now)))
+judged c = ap₂ _&&_ (c .before .before .all-coordinates .ensures) (ap₂ _&&_ (c .before .is-coordinate .ensures) (c .all-coordinates2 .ensures))
+
+past-4 : (c : tie.Else4) → let s = c .before .before .before .before .before .before .before .before .before .before .args in (all coordinate (s .center .now) && (coordinate (s .radius) && all coordinate (s .p .now))) ≡ true
+past-4 c = sym (judged (c .before)) ∙ not-false _ (c .if4 .left)
 
 is-dimension-requires : tie.Need-is-dimension-requires
 is-dimension-requires c κs = search needs
@@ -32,32 +36,24 @@ returns c = rw (sym (c .before .is-dimension .ensures) ∙ not-true _ (c .if1 .t
 
 returns-2 : tie.Need-returns-2
 unfolding pointCircleAnswer
-returns-2 c = let s = c .before .before .before .before .before .args in rw (dim (c .before), ne-eqb (length (s .center .now)) 2 (c .if2 .taken))
+returns-2 c = let s = c .before .before .before .before .before .args in rw (past-1 (c .before), ne-eqb (length (s .center .now)) 2 (c .if2 .taken))
 
 returns-3 : tie.Need-returns-3
 unfolding pointCircleAnswer
-returns-3 c = let s = c .before .before .before .before .before .before .args in rw (dim (c .before .before), eq-eqb (length (s .center .now)) 2 (c .before .if2 .left), ne-eqb (length (s .p .now)) (length (s .center .now)) (c .if3 .taken))
+returns-3 c = let s = c .before .before .before .before .before .before .args in rw (past-1 (c .before .before), past-2 (c .before), ne-eqb (length (s .p .now)) (length (s .center .now)) (c .if3 .taken))
 
 all-coordinates-requires : tie.Need-all-coordinates-requires
 all-coordinates-requires c κs = search needs
 
-returns-4 : tie.Need-returns-4
-unfolding pointCircleAnswer
-returns-4 c = let s = c .before .before .before .before .before .before .before .before .args in rw (dim (c .before .before .before .before), eq-eqb (length (s .center .now)) 2 (c .before .before .before .if2 .left), eq-eqb (length (s .p .now)) (length (s .center .now)) (c .before .before .if3 .left), sym (c .before .all-coordinates .ensures) ∙ not-true _ (c .if4 .taken))
-
 is-coordinate-requires : tie.Need-is-coordinate-requires
 is-coordinate-requires c κs = search needs
-
-returns-5 : tie.Need-returns-5
-unfolding pointCircleAnswer
-returns-5 c = let s = c .before .before .before .before .before .before .before .before .before .before .args in rw (dim (c .before .before .before .before .before .before), eq-eqb (length (s .center .now)) 2 (c .before .before .before .before .before .if2 .left), eq-eqb (length (s .p .now)) (length (s .center .now)) (c .before .before .before .before .if3 .left), all-center (c .before .before), sym (c .before .is-coordinate .ensures) ∙ not-true _ (c .if5 .taken))
 
 all-coordinates-requires-2 : tie.Need-all-coordinates-requires-2
 all-coordinates-requires-2 c κs = search needs
 
-returns-6 : tie.Need-returns-6
+returns-4 : tie.Need-returns-4
 unfolding pointCircleAnswer
-returns-6 c = let s = c .before .before .before .before .before .before .before .before .before .before .before .before .args in rw (dim (c .before .before .before .before .before .before .before .before), eq-eqb (length (s .center .now)) 2 (c .before .before .before .before .before .before .before .if2 .left), eq-eqb (length (s .p .now)) (length (s .center .now)) (c .before .before .before .before .before .before .if3 .left), all-center (c .before .before .before .before), one-radius (c .before .before), sym (c .before .all-coordinates2 .ensures) ∙ not-true _ (c .if6 .taken))
+returns-4 c = rw (past-1 (c .before .before .before .before .before .before), past-2 (c .before .before .before .before .before), past-3 (c .before .before .before .before), sym (judged (c .before)) ∙ not-true _ (c .if4 .taken))
 
 new-requires : tie.Need-new-requires
 new-requires c κs = search needs
@@ -66,15 +62,18 @@ new-requires-2 : tie.Need-new-requires-2
 new-requires-2 c κs = search needs
 
 point-point-requires : tie.Need-point-point-requires
-point-point-requires c κs = dim (c .before .before .before .before .before .before .before .before .before .before)
+point-point-requires c κs = past-1 (c .before .before .before .before .before .before .before .before)
 
-returns-7 : tie.Need-returns-7
+returns-5 : tie.Need-returns-5
 unfolding pointCircleAnswer
-returns-7 c = let s = c .before .before .before .before .before .before .before .before .before .before .before .before .before .before .before .args in
-    let d = dim (c .before .before .before .before .before .before .before .before .before .before .before) in
+returns-5 c =
+    let s = c .before .before .before .before .before .before .before .before .before .before .before .before .before .args in
+    let d = past-1 (c .before .before .before .before .before .before .before .before .before) in
     let value : c .point-point .result ≡ pointPoint (s .center .now) (s .p .now) =
-    c .point-point .ensures ∙ ap₂ pointPoint (coords-of (length (s .center .now)) (s .center .now) (c .before .before .new .result) d refl (c .before .before .new .ensures)) (coords-of (length (s .center .now)) (s .p .now) (c .before .new2 .result) d (c .before .before .before .before .before .before .before .before .before .if3 .left) (c .before .new2 .ensures)) in
-    rw (value, dim (c .before .before .before .before .before .before .before .before .before .before .before), eq-eqb (length (s .center .now)) 2 (c .before .before .before .before .before .before .before .before .before .before .if2 .left), eq-eqb (length (s .p .now)) (length (s .center .now)) (c .before .before .before .before .before .before .before .before .before .if3 .left), all-center (c .before .before .before .before .before .before .before), one-radius (c .before .before .before .before .before), all-p (c .before .before .before))
+    c .point-point .ensures ∙ ap₂ pointPoint
+    (coords-of (length (s .center .now)) (s .center .now) (c .before .before .new .result) d refl (c .before .before .new .ensures))
+    (coords-of (length (s .center .now)) (s .p .now) (c .before .new2 .result) d (c .before .before .before .before .before .before .before .if3 .left) (c .before .new2 .ensures)) in
+    rw (value, past-1 (c .before .before .before .before .before .before .before .before .before), past-2 (c .before .before .before .before .before .before .before .before), past-3 (c .before .before .before .before .before .before .before), past-4 (c .before .before .before))
 
 pub point-circle-distance-spec : {M : Type 1} → statement M
 point-circle-distance-spec =
@@ -85,12 +84,10 @@ point-circle-distance-spec =
     returns-2
     returns-3
     all-coordinates-requires
-    returns-4
     is-coordinate-requires
-    returns-5
     all-coordinates-requires-2
-    returns-6
+    returns-4
     new-requires
     new-requires-2
     point-point-requires
-    returns-7)
+    returns-5)

@@ -1,6 +1,7 @@
 -- `geometry::point_point_distance` meets its contract. Assumes nothing.
-use mathlib.Core.Bool.{true}
+use mathlib.Core.Bool.{true, _&&_}
 use mathlib.Core.Path.{ap₂, _≡_, refl, sym, _∙_}
+use lib.Dec.{eqb}
 use lib.ListN.{length}
 use borrow.Author.Needs.{needs}
 use borrow.Author.Tests.{eq-eqb, ne-eqb, not-true, not-false}
@@ -11,14 +12,17 @@ use Rattle.geometry.specs.Position.{dimension, coordinate}
 use Rattle.geometry.proofs.point_point_distance.Statement.{statement}
 use Rattle.geometry.proofs.point_point_distance.Tie as tie
 
-dim : (c : tie.Else1) → dimension (length (c .before .before .before .before .args .a .now)) ≡ true
-dim c = sym (c .before .is-dimension .ensures) ∙ not-false _ (c .if1 .left)
+past-1 : (c : tie.Else1) → dimension (length (c .before .before .before .before .args .a .now)) ≡ true
+past-1 c = sym (c .before .is-dimension .ensures) ∙ not-false _ (c .if1 .left)
 
-all-a : (c : tie.Else3) → all coordinate (c .before .before .before .before .before .before .before .args .a .now) ≡ true
-all-a c = sym (c .before .all-coordinates .ensures) ∙ not-false _ (c .if3 .left)
+past-2 : (c : tie.Else2) → let s = c .before .before .before .before .before .args in eqb (length (s .b .now)) (length (s .a .now)) ≡ true
+past-2 c = let s = c .before .before .before .before .before .args in eq-eqb (length (s .b .now)) (length (s .a .now)) (c .if2 .left)
 
-all-b : (c : tie.Else4) → all coordinate (c .before .before .before .before .before .before .before .before .before .args .b .now) ≡ true
-all-b c = sym (c .before .all-coordinates2 .ensures) ∙ not-false _ (c .if4 .left)
+judged : (c : tie.After-all-coordinates2) → let s = c .before .before .before .before .before .before .before .args in (c .before .all-coordinates .result && c .all-coordinates2 .result) ≡ (all coordinate (s .a .now) && all coordinate (s .b .now))
+judged c = ap₂ _&&_ (c .before .all-coordinates .ensures) (c .all-coordinates2 .ensures)
+
+past-3 : (c : tie.Else3) → let s = c .before .before .before .before .before .before .before .before .args in (all coordinate (s .a .now) && all coordinate (s .b .now)) ≡ true
+past-3 c = sym (judged (c .before)) ∙ not-false _ (c .if3 .left)
 
 is-dimension-requires : tie.Need-is-dimension-requires
 is-dimension-requires c κs = search needs
@@ -29,21 +33,17 @@ returns c = rw (sym (c .before .is-dimension .ensures) ∙ not-true _ (c .if1 .t
 
 returns-2 : tie.Need-returns-2
 unfolding pointPointAnswer
-returns-2 c = let s = c .before .before .before .before .before .args in rw (dim (c .before), ne-eqb (length (s .b .now)) (length (s .a .now)) (c .if2 .taken))
+returns-2 c = let s = c .before .before .before .before .before .args in rw (past-1 (c .before), ne-eqb (length (s .b .now)) (length (s .a .now)) (c .if2 .taken))
 
 all-coordinates-requires : tie.Need-all-coordinates-requires
 all-coordinates-requires c κs = search needs
 
-returns-3 : tie.Need-returns-3
-unfolding pointPointAnswer
-returns-3 c = let s = c .before .before .before .before .before .before .before .args in rw (dim (c .before .before .before), eq-eqb (length (s .b .now)) (length (s .a .now)) (c .before .before .if2 .left), sym (c .before .all-coordinates .ensures) ∙ not-true _ (c .if3 .taken))
-
 all-coordinates-requires-2 : tie.Need-all-coordinates-requires-2
 all-coordinates-requires-2 c κs = search needs
 
-returns-4 : tie.Need-returns-4
+returns-3 : tie.Need-returns-3
 unfolding pointPointAnswer
-returns-4 c = let s = c .before .before .before .before .before .before .before .before .before .args in rw (dim (c .before .before .before .before .before), eq-eqb (length (s .b .now)) (length (s .a .now)) (c .before .before .before .before .if2 .left), all-a (c .before .before), sym (c .before .all-coordinates2 .ensures) ∙ not-true _ (c .if4 .taken))
+returns-3 c = rw (past-1 (c .before .before .before .before), past-2 (c .before .before .before), sym (judged (c .before)) ∙ not-true _ (c .if3 .taken))
 
 new-requires : tie.Need-new-requires
 new-requires c κs = search needs
@@ -52,15 +52,18 @@ new-requires-2 : tie.Need-new-requires-2
 new-requires-2 c κs = search needs
 
 point-point-requires : tie.Need-point-point-requires
-point-point-requires c κs = dim (c .before .before .before .before .before .before .before)
+point-point-requires c κs = past-1 (c .before .before .before .before .before .before)
 
-returns-5 : tie.Need-returns-5
+returns-4 : tie.Need-returns-4
 unfolding pointPointAnswer
-returns-5 c = let s = c .before .before .before .before .before .before .before .before .before .before .before .before .args in
-    let d = dim (c .before .before .before .before .before .before .before .before) in
+returns-4 c =
+    let s = c .before .before .before .before .before .before .before .before .before .before .before .args in
+    let d = past-1 (c .before .before .before .before .before .before .before) in
     let value : c .point-point .result ≡ pointPoint (s .a .now) (s .b .now) =
-    c .point-point .ensures ∙ ap₂ pointPoint (coords-of (length (s .a .now)) (s .a .now) (c .before .before .new .result) d refl (c .before .before .new .ensures)) (coords-of (length (s .a .now)) (s .b .now) (c .before .new2 .result) d (c .before .before .before .before .before .before .before .if2 .left) (c .before .new2 .ensures)) in
-    rw (value, dim (c .before .before .before .before .before .before .before .before), eq-eqb (length (s .b .now)) (length (s .a .now)) (c .before .before .before .before .before .before .before .if2 .left), all-a (c .before .before .before .before .before), all-b (c .before .before .before))
+    c .point-point .ensures ∙ ap₂ pointPoint
+    (coords-of (length (s .a .now)) (s .a .now) (c .before .before .new .result) d refl (c .before .before .new .ensures))
+    (coords-of (length (s .a .now)) (s .b .now) (c .before .new2 .result) d (c .before .before .before .before .before .before .if2 .left) (c .before .new2 .ensures)) in
+    rw (value, past-1 (c .before .before .before .before .before .before .before), past-2 (c .before .before .before .before .before .before), past-3 (c .before .before .before))
 
 pub point-point-distance-spec : {M : Type 1} → statement M
 point-point-distance-spec =
@@ -70,10 +73,9 @@ point-point-distance-spec =
     returns
     returns-2
     all-coordinates-requires
-    returns-3
     all-coordinates-requires-2
-    returns-4
+    returns-3
     new-requires
     new-requires-2
     point-point-requires
-    returns-5)
+    returns-4)
