@@ -5,6 +5,7 @@ pub mod Held
 pub mod Order
 pub mod Unique
 pub mod Choice
+pub mod Upto
 pub mod Sqrt
 pub mod Near
 pub mod Laws

@@ -3,3 +3,4 @@ pub mod Divisions
 pub mod Containers
 pub mod Keys
 pub mod Bounds
+pub mod Shares
