@@ -1,0 +1,5 @@
+-- Laws: of sorted lists, which callers cite, of lists mixed by a swap, and of heaps.
+pub mod Counts
+pub mod Orders
+pub mod Mixes
+pub mod Heaps
