@@ -4,21 +4,21 @@ use std::hint::black_box;
 use std::time::Instant;
 
 /// Nanoseconds for a call of f on each of xs: the best of several rounds, once with calls that may overlap and once where
-/// each call waits for the last.
+/// each call waits for the last. Work of others on the same machine can double the second: the least of several runs counts.
 pub fn per_call(f: extern "C" fn(f64) -> f64, xs: &[f64]) -> (f64, f64) {
     const ROUNDS: usize = 15;
-    const TURNS: usize = 40;
+    const TURNS: usize = 10;
     let n = (TURNS * xs.len()) as f64;
+    let mut ys = vec![0.0; xs.len()];
     let (mut apart, mut chained) = (f64::INFINITY, f64::INFINITY);
     for _ in 0..ROUNDS {
         let start = Instant::now();
-        let mut sum = 0.0;
         for _ in 0..TURNS {
-            for x in xs {
-                sum += f(*x);
+            for (x, y) in xs.iter().zip(&mut ys) {
+                *y = f(*x);
             }
+            black_box(&mut ys);
         }
-        black_box(sum);
         apart = apart.min(start.elapsed().as_nanos() as f64 / n);
 
         let start = Instant::now();

@@ -150,7 +150,7 @@ pub fn sqrt(x: f64) -> f64
             x
         }
     } else if x == 0.0 {
-        x
+        x // the zero itself, with its sign
     } else {
         0.0 / 0.0
     }
@@ -163,7 +163,7 @@ pub fn truncated(x: f64) -> u64
 {
     if x > -1.0 {
         if x < 18446744073709551616.0 {
-            std::num::truncating_f64_to_u64(x)
+            std::num::truncating_f64_to_u64(x) // without its fraction
         } else {
             0xffff_ffff_ffff_ffff
         }
