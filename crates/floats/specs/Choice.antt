@@ -1,12 +1,12 @@
 -- The laws of the magnitude, of the smaller and the larger of two, and of the tests of one float.
 -- Assumes nothing.
-use mathlib.Core.Path.{_≡_, refl}
+use mathlib.Core.Path.{_≡_, refl, sym}
 use mathlib.Core.Logic.{_⊎_, inl, inr}
-use mathlib.Core.Bool.{Bool, true, false, cond, _||_, false≢true}
+use mathlib.Core.Bool.{Bool, true, false, cond, _&&_, _||_, false≢true}
 use lib.Ieee.{Float, nan, inf, fin, lt, le, isNan, neg}
 use Rattle.basics.specs.Bools.{which, or-true}
 use Rattle.floats.specs.Tests.{absOf, minOf, maxOf, finite, within}
-use Rattle.floats.specs.Order.{lt-le, le-self, not-lt-le}
+use Rattle.floats.specs.Order.{lt-le, le-self, not-lt-le, le-ends}
 
 -- ---- the magnitude
 pub abs-abs : (x : Float) → absOf (absOf x) ≡ absOf x
@@ -85,3 +85,24 @@ within-finite nan (inf s) h k = k
 within-finite (inf t) (inf s) h k = h
 within-finite (fin t n d) (inf s) h k = k
 within-finite limit (fin s m e) h k = refl
+
+-- ---- a magnitude is at most the limit exactly if the value lies from -limit up to the limit
+pub within-ends : (limit x : Float) → within limit x ≡ (le (neg limit) x && le x limit)
+unfolding within absOf neg
+within-ends nan x = go x
+  where
+    go : (x : Float) → le (absOf x) nan ≡ (le nan x && le x nan)
+    go nan = unfold le in refl
+    go (inf t) = unfold le in refl
+    go (fin t n d) = unfold le in refl
+within-ends (inf s) nan = unfold le in refl
+within-ends (inf true) (inf true) = unfold le in refl
+within-ends (inf true) (inf false) = unfold le in refl
+within-ends (inf false) (inf true) = unfold le in refl
+within-ends (inf false) (inf false) = unfold le in refl
+within-ends (inf true) (fin t n d) = unfold le in refl
+within-ends (inf false) (fin t n d) = unfold le in refl
+within-ends (fin s m e) nan = unfold le in refl
+within-ends (fin s m e) (inf true) = unfold le in refl
+within-ends (fin s m e) (inf false) = unfold le in refl
+within-ends (fin s m e) (fin t n d) = sym (le-ends s m e t n d)

@@ -1,18 +1,19 @@
 -- The laws of Rust's `<` and `<=` on floats: an order of all values but NaN, in which the two zeros are equal.
 -- Assumes nothing.
-use mathlib.Core.Path.{_≡_, refl, sym, ap, _∙_, subst}
+use mathlib.Core.Path.{_≡_, refl, sym, ap, ap₂, _∙_, subst}
 use Prim.Native.Nat.{ℕ, zero, suc, _+_, _*_, _≤_, _<_, zero-le}
 use native.Mathlib.Nat.{le-trans, le-of-eq, le-refl, lt-irrefl, zero-mul, mul-pos}
 use native.Mathlib.Omega.{arith}
 use mathlib.Core.Logic.{_⊎_, inl, inr}
-use mathlib.Core.Bool.{Bool, true, false, not, _&&_, _||_, true≢false, false≢true}
+use mathlib.Core.Bool.{Bool, true, false, not, _&&_, _||_, true≢false, false≢true, and-true, and-false}
 use lib.Dec.{leb, ltb, eqb, eqb·zero-suc, eqb·suc-zero}
 use lib.IntN.{ℤ}
 use lib.Ieee.{Float, nan, inf, fin, up, down, lt, le, eq, isNan}
 use lib.Ieee.Fits.{down-pos}
 use lib.Ieee.Positive.{through}
 use borrow.Author.Tests.{ltb-true, ltb-false, leb-true, eqb-true, eqb-false, lt-ltb, le-leb, lt-leb, eq-eqb, ne-eqb}
-use Rattle.basics.specs.Bools.{which, clash, and-both, both}
+use Rattle.basics.specs.Bools.{which, by-test, clash, and-both, both}
+use Rattle.basics.specs.Laws.{at-most}
 
 -- ---- `<=` of two finite values in one comparison: of ±a and ±b, the two over a common denominator
 abbrev upTo : Bool → ℕ → Bool → ℕ → Bool
@@ -20,17 +21,6 @@ upTo false a false b = leb a b
 upTo false a true b = eqb a 0 && eqb b 0
 upTo true a false b = true
 upTo true a true b = leb b a
-
-at-most : (a b : ℕ) → (ltb a b || (eqb a b && true)) ≡ leb a b
-at-most a b = go (which (ltb a b)) (which (eqb a b))
-  where
-    go : (ltb a b ≡ true) ⊎ (ltb a b ≡ false) → (eqb a b ≡ true) ⊎ (eqb a b ≡ false) → (ltb a b || (eqb a b && true)) ≡ leb a b
-    go (inl l) e = rw l (sym (le-leb a b (omega (arith, ltb-true a b l))))
-    go (inr l) (inl e) = rw (l, e) (sym (le-leb a b (omega (arith, eqb-true a b e))))
-    go (inr l) (inr e) = rw (l, e) (sym (lt-leb a b (less a b (ltb-false a b l) (eqb-false a b e))))
-      where
-        less : (a b : ℕ) → b ≤ a → (a ≡ b → ⊥) → b < a
-        less a b h n = omega arith
 
 at-least : (a b : ℕ) → (ltb b a || (eqb a b && true)) ≡ leb b a
 at-least a b = ap (λ (t : Bool). ltb b a || (t && true)) (turned (which (eqb a b))) ∙ at-most b a
@@ -59,6 +49,17 @@ le-finite false m e false n d = at-most (m * up e * down d) (n * up d * down e)
 le-finite false m e true n d = zeros (m * up e * down d) (n * up d * down e)
 le-finite true m e false n d = negative-first (m * up e * down d) (n * up d * down e)
 le-finite true m e true n d = at-least (m * up e * down d) (n * up d * down e)
+
+-- ±b from -(±a) up to ±a, where that is its magnitude at most ±a
+ends : (s : Bool) (a : ℕ) (t : Bool) (b : ℕ) → (upTo (not s) a t b && upTo t b s a) ≡ upTo false b s a
+ends false a false b = refl
+ends false a true b = and-true (leb b a)
+ends true a false b = by-test (eqb b 0) (λ z. by-test (eqb a 0) (λ w. rw (z, w, le-leb a b (omega (arith, eqb-true a 0 w)))) (λ w. rw (z, w, and-false))) (λ z. rw (z, and-false))
+ends true a true b = by-test (eqb b 0) (λ z. by-test (eqb a 0) (λ w. rw (z, w, le-leb a b (omega (arith, eqb-true a 0 w)))) (λ w. rw (z, w))) (λ z. rw (z, and-false))
+
+pub le-ends : (s : Bool) (m : ℕ) (e : ℤ) (t : Bool) (n : ℕ) (d : ℤ) → (le (fin (not s) m e) (fin t n d) && le (fin t n d) (fin s m e)) ≡ le (fin false n d) (fin s m e)
+le-ends s m e t n d =
+    ap₂ (λ (p q : Bool). p && q) (le-finite (not s) m e t n d) (le-finite t n d s m e) ∙ ends s (m * up e * down d) t (n * up d * down e) ∙ sym (le-finite false n d s m e)
 
 -- ---- of two values that are no NaN, one is below the other exactly where that one is not at or below it
 turned-ltb : (a b : ℕ) → ltb a b ≡ not (leb b a)

@@ -241,7 +241,8 @@ pub fn is_finite(x: f64) -> bool
 pub fn is_within(limit: f64, x: f64) -> bool
     ensures { λ r. ⌜ r ≡ within limit x ⌝ }
 {
-    abs(x) <= limit
+    // both tests, with no branch: a loop over a slice then takes several values at a time
+    (-limit <= x) & (x <= limit)
 }
 
 // Whether two values are the same bit for bit. A NaN has no pattern of its own, and is the same as nothing.

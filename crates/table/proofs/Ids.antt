@@ -3,7 +3,7 @@
 use Prim.Native.Nat.{ℕ, _≤_, _<_}
 use native.Mathlib.Omega.{arith}
 use mathlib.Core.Path.{_≡_, refl, sym, ap, ap₂, _∙_, subst}
-use mathlib.Core.Bool.{Bool, true, false, _&&_, _||_, cond}
+use mathlib.Core.Bool.{Bool, true, false, _&&_, _||_, cond, and-false}
 use mathlib.Core.Logic.{_⊎_, inl, inr, ⊎-elim}
 use mathlib.Core.List.{List, [], _∷_, map, List·Memᴰ, List·Memᴰ·head, List·Memᴰ·tail, List·Memᴰ·cases-cons, List·Memᴰ·not-nil}
 use mathlib.Core.Option.{Option, none, some}
@@ -99,14 +99,10 @@ choose true false h x y r g = refl
 choose true true false x y r g = g refl
 choose true true true x y r g = refl
 
-no-marks : (e : Bool) → (e && false) ≡ false
-no-marks false = refl
-no-marks true = refl
-
 -- a mark's slot has the mark's row, and any other the row that it had
 pub rowFor-putIn : (id : ℕ) (at : Position) (ks : List ℕ) (rows : List Row) (p : Slot) → rowFor p (putIn id at ks rows) ≡ cond (marks id ks p) (some (rowIn id at (p .key))) (rowFor p rows)
 unfolding putIn has same
-rowFor-putIn id at [] rows p = rw (no-marks (eqb id (p .id)))
+rowFor-putIn id at [] rows p = rw (and-false)
 rowFor-putIn id at (k ∷ ks) rows p =
     rowFor-putIn id at ks (putRow (rowIn id at k) rows) p
     ∙ ap (cond (marks id ks p) (some (rowIn id at (p .key)))) (rowFor-put p (rowIn id at k) rows)

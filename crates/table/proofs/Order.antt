@@ -6,7 +6,7 @@ use native.Mathlib.Numerals.{add-one}
 use native.Mathlib.Omega.{arith}
 use mathlib.Core.Path.{_≡_, refl, sym, ap, _∙_, subst}
 use mathlib.Core.Logic.{_⊎_, inl, inr, ⊎-elim}
-use mathlib.Core.Bool.{Bool, true, false, _&&_, _||_, cond, false≢true, or-true}
+use mathlib.Core.Bool.{Bool, true, false, _&&_, _||_, cond, false≢true, or-true, and-assoc}
 use mathlib.Core.List.{List, [], _∷_, map}
 use lib.ListN.{length, drop}
 use lib.Dec.{ltb, eqb}
@@ -104,6 +104,10 @@ sorted-step n f i h =
     let k : suc i < n = omega arith in
     let g : i < n = omega arith in
     rw (add-one, drop-tab n f i g, drop-tab n f (suc i) k)
+
+-- the same with a flag that holds what was passed
+pub sorted-turn : (n : ℕ) (f : ℕ → Slot) (i : ℕ) (ok : Bool) → i + 1 < n → (ok && sorted (drop i (tab n f))) ≡ ((ok && before (f i) (f (i + 1))) && sorted (drop (i + 1) (tab n f)))
+sorted-turn n f i ok h = ap (λ (t : Bool). ok && t) (sorted-step n f i h) ∙ sym (and-assoc ok (before (f i) (f (i + 1))) (sorted (drop (i + 1) (tab n f))))
 
 pub sorted-end : (n : ℕ) (f : ℕ → Slot) (i : ℕ) → n ≤ i + 1 → sorted (drop i (tab n f)) ≡ true
 unfolding sorted chain

@@ -1,16 +1,11 @@
 -- `floats::is_within` meets its contract. Assumes nothing.
-use mathlib.Core.Path.{ap}
-use lib.Ieee.{Float, le}
-use Rattle.floats.specs.Tests.{within}
+use mathlib.Core.Path.{sym}
+use Rattle.floats.specs.Choice.{within-ends}
 use Rattle.floats.proofs.is_within.Statement.{statement}
 use Rattle.floats.proofs.is_within.Tie as tie
 
-abs-requires : tie.Need-abs-requires
-abs-requires c κs = tt
-
 returns : tie.Need-returns
-unfolding within
-returns c = ap (λ (y : Float). le y (c .before .args .limit)) (c .abs .ensures)
+returns c = sym (within-ends (c .args .limit) (c .args .x))
 
 pub is-within-spec : {M : Type 1} → statement M
-is-within-spec = tie.close (tie.spec abs-requires returns)
+is-within-spec = tie.close (tie.spec returns)
