@@ -10,8 +10,8 @@ use mathlib.Core.List.{List, [], _∷_, _++_, map, map-append}
 use lib.ListN.{length, getD, take, drop}
 use lib.Dec.{ltb, leb, eqb}
 use borrow.Author.Tests.{ltb-true, ltb-false, eqb-true, eqb-false, le-leb, lt-leb}
-use Rattle.basics.specs.Bools.{by-test}
-use Rattle.basics.specs.Lists.{keep, tab}
+use Rattle.basics.specs.Bools.{by-test, and-left, and-right}
+use Rattle.basics.specs.Lists.{all, keep, tab}
 
 -- ---- numbers
 
@@ -62,6 +62,15 @@ module _ {A : Type 0} where
   unfolding keep
   length-keep p [] = omega arith
   length-keep p (x ∷ l) = by-test (p x) (λ e. rw e (omega (arith, length-keep p l))) (λ e. rw e (omega (arith, length-keep p l)))
+
+-- ---- lists whose every entry passes a test
+
+module _ {A : Type 0} where
+  pub all-at : (p : A → Bool) (l : List A) (i : ℕ) (d : A) → i < length l → all p l ≡ true → p (getD l i d) ≡ true
+  unfolding all
+  all-at p [] i d h e = absurd (not-suc-le-zero h)
+  all-at p (x ∷ l) zero d h e = and-left (p x) (all p l) e
+  all-at p (x ∷ l) (suc i) d h e = all-at p l i d (le-of-suc-le-suc h) (and-right (p x) (all p l) e)
 
 -- ---- map
 

@@ -1,0 +1,3 @@
+-- Laws of meshes.
+pub mod Whole
+mod Boxes
