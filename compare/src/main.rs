@@ -4,6 +4,7 @@
 //! A part is a file of its own and a line of `PARTS`.
 
 mod floats;
+mod geometry;
 mod near;
 mod random;
 mod tally;
@@ -12,7 +13,12 @@ mod timing;
 use std::process::ExitCode;
 use tally::Tally;
 
-const PARTS: &[(&str, fn(&mut Tally))] = &[("floats", floats::compare), ("bench-floats", floats::measure)];
+const PARTS: &[(&str, fn(&mut Tally))] = &[
+    ("floats", floats::compare),
+    ("bench-floats", floats::measure),
+    ("geometry", geometry::compare),
+    ("bench-geometry", geometry::measure),
+];
 
 fn main() -> ExitCode {
     let mut names: Vec<String> = std::env::args().skip(1).collect();

@@ -33,3 +33,22 @@ pub fn per_call(f: extern "C" fn(f64) -> f64, xs: &[f64]) -> (f64, f64) {
     }
     (apart, chained)
 }
+
+/// Nanoseconds for f(0), .., f(n - 1), each: the best of several rounds.
+pub fn best_of(n: usize, f: impl Fn(usize) -> f64) -> f64 {
+    const ROUNDS: usize = 15;
+    const TURNS: usize = 100;
+    let mut best = f64::INFINITY;
+    for _ in 0..ROUNDS {
+        let start = Instant::now();
+        let mut sum = 0.0;
+        for _ in 0..TURNS {
+            for i in 0..n {
+                sum += f(i);
+            }
+        }
+        black_box(sum);
+        best = best.min(start.elapsed().as_nanos() as f64 / (TURNS * n) as f64);
+    }
+    best
+}

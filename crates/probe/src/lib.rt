@@ -1,4 +1,6 @@
 // The functions that serve the public calls, for the comparison with the Rust. Nothing else is here.
+mod cells;
+
 ghost use mathlib.Core.Path.{_≡_};
 ghost use lib.Ieee.{toUnsigned};
 ghost use Rattle.floats.specs.Sqrt.{sqrtOf};
