@@ -221,3 +221,20 @@ module _ (i : ℕ) where
   unfolding putIn
   own-putIn id at [] rows e o = refl
   own-putIn id at (k ∷ ks) rows e o = own-putIn id at ks (putRow (rowIn id at k) rows) e (sorted-put (rowIn id at k) rows o) ∙ ap (putIn id at ks) (own-put (rowIn id at k) rows e o)
+
+  pub own-own : (rows : List Row) → own i (own i rows) ≡ own i rows
+  unfolding own keep
+  own-own [] = refl
+  own-own (r ∷ rows) = by-test (eqb (idIn r) i) (λ e. rw (e, e, own-own rows)) (λ e. rw (e, own-own rows))
+
+-- the row of a slot is one of the slot's id
+pub rowFor-own : (p : Slot) (rows : List Row) → rowFor p rows ≡ rowFor p (own (p .id) rows)
+unfolding rowFor own keep same
+rowFor-own p [] = refl
+rowFor-own p (r ∷ rows) =
+    let ih = rowFor-own p rows in
+    by-test (eqb (idIn r) (p .id)) (λ e. rw (e, ih, e)) (λ e. rw (e, ih, and-false (eqb (keyIn r) (p .key))))
+
+-- rows in strict order are known by the rows of each id
+pub own-ext : (rows more : List Row) → sorted (map slotOf rows) ≡ true → sorted (map slotOf more) ≡ true → ((i : ℕ) → own i rows ≡ own i more) → rows ≡ more
+own-ext rows more o o′ h = rows-ext rows more o o′ (λ p. rowFor-own p rows ∙ ap (rowFor p) (h (p .id)) ∙ sym (rowFor-own p more))
