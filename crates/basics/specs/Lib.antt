@@ -3,3 +3,4 @@ pub mod Bools
 pub mod Lists
 pub mod Laws
 pub mod Refusals
+pub mod Stores

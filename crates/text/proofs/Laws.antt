@@ -1,0 +1,152 @@
+-- Laws of texts in buffers, of decimal numbers and of lists of them.
+-- Assumes nothing.
+use Prim.Native.Nat.{ℕ, zero, suc, _+_, _-_, _*_, _/_, _%_, _^_, _≤_, _<_}
+use native.Mathlib.Numerals.{add-one}
+use native.Mathlib.Nat.{le-of-lt, zero-add, add-zero, add-suc, suc-add, add-assoc, div-lt-iff-lt-mul, pow-suc}
+use native.Mathlib.Omega.{arith}
+use mathlib.Core.Path.{_≡_, refl, sym, ap, _∙_}
+use mathlib.Core.Bool.{true, false}
+use mathlib.Core.List.{List, [], _∷_, _++_, append-nil, append-assoc}
+use lib.Dec.{ltb}
+use lib.ListN.{length, take, drop, getD, length-append, take-append-drop, List·getD-append}
+use lib.Seq.{length-sets, take-suc, length-take-le}
+use borrow.Author.Tests.{lt-ltb, le-ltb, ltb-true, ltb-false}
+use mathlib.Core.Logic.{_⊎_, inl, inr}
+use Rattle.basics.specs.Bools.{which, by-test}
+use Rattle.basics.specs.Lists.{over}
+use Rattle.basics.specs.Stores.{sets-append, sets-front}
+use Rattle.text.specs.Text.{ascii, digit, digits, decimal, valueFrom, value, entryText, entries, listText, Put}
+
+-- ---- texts in a buffer
+
+pub put-nothing : (l : List ℕ) (at : ℕ) → Put [] l at l at
+put-nothing l at = record { stands = refl; past = sym (add-zero at) }
+
+-- one text after another
+pub put-both : {a b l l′ l″ : List ℕ} {at next past : ℕ} → Put a l at l′ next → Put b l′ next l″ past → Put (a ++ b) l at l″ past
+put-both {a} {b} {l} {at = at} p q = record {
+  stands = q .stands ∙ rw (p .stands, p .past) (sym (sets-append a b l at));
+  past = q .past ∙ rw (p .past, length-append) (add-assoc at (length a) (length b));
+}
+
+pub put-length : {a l l′ : List ℕ} {at next : ℕ} → Put a l at l′ next → length l′ ≡ length l
+put-length {a} {l} {at = at} p = rw (p .stands) (length-sets l at a)
+
+-- a text that the buffer has room for, put at its front
+pub put-over : {a l l′ : List ℕ} {next : ℕ} → Put a l 0 l′ next → length a ≤ length l → l′ ≡ over a l
+unfolding over
+put-over {a} {l} p h = p .stands ∙ sets-front a l h
+
+-- ---- decimal numbers
+
+-- any depth above n serves
+enough : (k j n : ℕ) → n < k → n < j → digits k (ltb n 10) n ≡ digits j (ltb n 10) n
+unfolding digits
+enough zero j n h g = absurd (omega arith)
+enough (suc k) zero n h g = absurd (omega arith)
+enough (suc k) (suc j) n h g = go (enough k j (n / 10)) (which (ltb n 10))
+  where
+    go : (n / 10 < k → n / 10 < j → digits k (ltb (n / 10) 10) (n / 10) ≡ digits j (ltb (n / 10) 10) (n / 10))
+        → (ltb n 10 ≡ true) ⊎ (ltb n 10 ≡ false) → digits (suc k) (ltb n 10) n ≡ digits (suc j) (ltb n 10) n
+    go ih (inl e) = rw e
+    go ih (inr e) =
+        let ten : 10 ≤ n = ltb-false n 10 e in
+        rw e (ap (λ (l : List ℕ). l ++ (digit (n % 10) ∷ [])) (ih (omega arith) (omega arith)))
+
+pub decimal-small : (n : ℕ) → n < 10 → decimal n ≡ digit n ∷ []
+unfolding decimal digits
+decimal-small n h = rw (lt-ltb n 10 h)
+
+pub decimal-step : (n : ℕ) → 10 ≤ n → decimal n ≡ decimal (n / 10) ++ (digit (n % 10) ∷ [])
+unfolding decimal digits
+decimal-step n h =
+    rw (le-ltb n 10 h)
+    (ap (λ (l : List ℕ). l ++ (digit (n % 10) ∷ [])) (enough n (suc (n / 10)) (n / 10) (omega arith) (omega arith)))
+
+-- Decimal says its number: the digits' value is n, and the first is no 0 but where n is 0.
+
+value-more : (n : ℕ) (ds : List ℕ) (d : ℕ) → valueFrom n (ds ++ (d ∷ [])) ≡ valueFrom n ds * 10 + (d - 48)
+unfolding valueFrom
+value-more n [] d = refl
+value-more n (e ∷ ds) d = value-more (n * 10 + (e - 48)) ds d
+
+says : (k n : ℕ) → n < k → value (decimal n) ≡ n
+unfolding value valueFrom
+says zero n h = absurd (omega arith)
+says (suc k) n h = go (says k (n / 10)) (which (ltb n 10))
+  where
+    go : (n / 10 < k → value (decimal (n / 10)) ≡ n / 10) → (ltb n 10 ≡ true) ⊎ (ltb n 10 ≡ false) → value (decimal n) ≡ n
+    go ih (inl e) = rw (decimal-small n (ltb-true n 10 e)) (omega arith)
+    go ih (inr e) =
+        let ten : 10 ≤ n = ltb-false n 10 e in
+        rw (decimal-step n ten, value-more 0 (decimal (n / 10)) (digit (n % 10))) (let front = ih (omega arith) in omega arith)
+
+pub decimal-value : (n : ℕ) → value (decimal n) ≡ n
+decimal-value n = says (suc n) n (omega arith)
+
+pub decimal-some : (n : ℕ) → 0 < length (decimal n)
+decimal-some n = by-test (ltb n 10) (λ e. rw (decimal-small n (ltb-true n 10 e)) (omega arith)) λ e. rw (decimal-step n (ltb-false n 10 e), length-append) (omega arith)
+
+first-of : (k n : ℕ) → n < k → 0 < n → 48 < getD (decimal n) 0 0
+first-of zero n h g = absurd (omega arith)
+first-of (suc k) n h g = go (first-of k (n / 10)) (which (ltb n 10))
+  where
+    go : (n / 10 < k → 0 < n / 10 → 48 < getD (decimal (n / 10)) 0 0) → (ltb n 10 ≡ true) ⊎ (ltb n 10 ≡ false) → 48 < getD (decimal n) 0 0
+    go ih (inl e) = rw (decimal-small n (ltb-true n 10 e)) (omega arith)
+    go ih (inr e) =
+        let ten : 10 ≤ n = ltb-false n 10 e in
+        rw (decimal-step n ten, List·getD-append (decimal (n / 10)) _ 0 0 (decimal-some (n / 10))) (ih (omega arith) (omega arith))
+
+pub decimal-first : (n : ℕ) → 0 < n → 48 < getD (decimal n) 0 0
+decimal-first n h = first-of (suc n) n (omega arith) h
+
+-- a number below 10 ^ k has at most k digits
+pub decimal-length : (k n : ℕ) → n < 10 ^ suc k → length (decimal n) ≤ suc k
+decimal-length zero n h = rw (decimal-small n h) (omega arith)
+decimal-length (suc k) n h = go (decimal-length k (n / 10)) (which (ltb n 10))
+  where
+    go : (n / 10 < 10 ^ suc k → length (decimal (n / 10)) ≤ suc k) → (ltb n 10 ≡ true) ⊎ (ltb n 10 ≡ false) → length (decimal n) ≤ suc (suc k)
+    go ih (inl e) = rw (decimal-small n (ltb-true n 10 e)) (omega arith)
+    go ih (inr e) =
+        rw (decimal-step n (ltb-false n 10 e), length-append)
+        (let short = ih (div-lt-iff-lt-mul {k = 10} {x = n} (omega arith) .1 (rw (pow-suc 10 (suc k)) at h)) in omega arith)
+
+-- a u64 has at most 20 digits
+pub decimal-20 : (n : ℕ) → n < 2 ^ 64 → length (decimal n) ≤ 20
+decimal-20 n h = decimal-length 19 n (omega arith)
+
+-- ---- lists of numbers
+
+pub entry-first : (i n : ℕ) → i ≡ 0 → entryText i n ≡ decimal n
+unfolding entryText
+entry-first i n e = rw e
+
+pub entry-next : (i n : ℕ) → (i ≡ 0 → ⊥) → entryText i n ≡ ascii ", " ++ decimal n
+unfolding entryText
+entry-next zero n e = absurd (e refl)
+entry-next (suc i) n e = refl
+
+pub entries-append : (i : ℕ) (a b : List ℕ) → entries i (a ++ b) ≡ entries i a ++ entries (i + length a) b
+unfolding entries
+entries-append i [] b = rw add-zero
+entries-append i (n ∷ a) b = rw (entries-append (suc i) a b, append-assoc, add-suc, suc-add)
+
+-- one entry more
+pub entries-more : (ns : List ℕ) (i : ℕ) → i < length ns → entries 0 (take (i + 1) ns) ≡ entries 0 (take i ns) ++ entryText i (getD ns i 0)
+unfolding entries
+entries-more ns i h =
+    rw (add-one, take-suc ns i 0 h, entries-append 0 (take i ns), append-nil)
+    (rw (zero-add, length-take-le i ns (le-of-lt h)))
+
+-- the first entries are no longer than all
+pub entries-front : (ns : List ℕ) (i : ℕ) → length (entries 0 (take i ns)) ≤ length (entries 0 ns)
+entries-front ns i =
+    omega (
+      arith,
+      ap (λ (l : List ℕ). length (entries 0 l)) (take-append-drop i ns),
+      simp length-append at (ap length (entries-append 0 (take i ns) (drop i ns))),
+    )
+
+pub list-length : (ns : List ℕ) → length (listText ns) ≡ length (entries 0 ns) + 2
+unfolding listText
+list-length ns = simp length-append (omega arith)

@@ -1,0 +1,2 @@
+-- Laws that callers' proofs cite.
+pub mod Laws
