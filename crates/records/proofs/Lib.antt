@@ -1,0 +1,3 @@
+-- Laws that callers' proofs cite.
+pub mod Laws
+pub mod RoundTrip
