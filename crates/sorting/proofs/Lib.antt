@@ -3,3 +3,4 @@ pub mod Counts
 pub mod Orders
 pub mod Mixes
 pub mod Heaps
+pub mod Distinct
