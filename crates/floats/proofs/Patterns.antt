@@ -1,53 +1,19 @@
--- What a bit pattern of an `f64` stands for, and the root of a * 2 ^ h units as one. Assumes nothing.
+-- The root of a * 2 ^ h units, as a bit pattern. Assumes nothing.
 use mathlib.Core.Path.{_≡_, refl, sym, ap, _∙_, subst}
 use Prim.Native.Nat.{ℕ, suc, _+_, _-_, _*_, _/_, _%_, _^_, _≤_, _<_}
 use native.Mathlib.Nat.{le-trans, le-of-eq, le-of-lt, lt-of-lt-of-le, lt-of-le-of-lt, lt-of-not-le, lt-irrefl, mul-one, mul-assoc, mul-comm, mul-mul-mul-comm, mul-pos, mul-le-mul-right, mul-lt-mul-of-pos-right, le-mul-of-pos-right, mod-eq-of-lt}
 use native.Mathlib.Omega.{arith}
 use native.Mathlib.Decide.{ℕ-discrete}
-use mathlib.Core.Bool.{Bool, false, cond}
-use lib.Dec.{eqb, lit<, lit≤}
+use mathlib.Core.Bool.{false}
+use lib.Dec.{lit<, lit≤}
 use lib.Count.{leadingZeros, leading-top}
 use lib.Pow.{pow-add, pow-pos, pow-mono}
-use lib.Ieee.{Float, nan, inf, binary64, odd, ofFields, ofBits}
+use lib.Ieee.{Float, binary64, odd, ofBits}
 use lib.Ieee.Exact.{odd-sign}
-use borrow.Author.Tests.{lt-leb, ne-eqb}
+use Rattle.floats.specs.Reading.{read-low, read-mid}
 use Rattle.floats.specs.Sqrt.{rootOf, sqrtOf}
 use Rattle.floats.specs.Near.{Near, root-of-near, sqrt-value}
 use Rattle.floats.specs.Posts.{Rounded, Written}
-
--- ---- reading a pattern whose sign is clear
-pub fields : (b x t : ℕ) → x < 2048 → t < 2 ^ 52 → b ≡ x * 2 ^ 52 + t → ofBits binary64 b ≡ ofFields binary64 false x t
-unfolding ofBits
-fields b x t X H e =
-    let lt : b < 2 ^ 63 = omega arith in
-    let m : b % 2 ^ 63 ≡ b = mod-eq-of-lt lt in
-    let d : b % 2 ^ 63 / 2 ^ 52 ≡ x = omega arith in
-    let r : b % 2 ^ 52 ≡ t = omega arith in
-    ap (λ (s : Bool). ofFields binary64 s (b % 2 ^ 63 / 2 ^ 52) (b % 2 ^ 52)) (lt-leb (2 ^ 63) b lt)
-    ∙ ap (λ (y : ℕ). ofFields binary64 false y (b % 2 ^ 52)) d
-    ∙ ap (λ (y : ℕ). ofFields binary64 false x y) r
-
-field-low : (t : ℕ) → ofFields binary64 false 0 t ≡ odd 53 false t 0 1074
-unfolding ofFields
-field-low t = refl
-
-field-mid : (x t : ℕ) → suc x < 2047 → ofFields binary64 false (suc x) t ≡ odd 53 false (2 ^ 52 + t) x 1074
-unfolding ofFields
-field-mid x t h = ap (λ (b : Bool). cond b (cond (eqb t 0) (inf false) nan) (odd 53 false (2 ^ 52 + t) x 1074)) (ne-eqb (suc x) 2047 (no x h))
-  where
-    no : (x : ℕ) → suc x < 2047 → suc x ≡ 2047 → ⊥
-    no x h e = omega arith
-
-pub read-low : (b : ℕ) → b / 2 ^ 52 ≡ 0 → ofBits binary64 b ≡ odd 53 false (b % 2 ^ 52) 0 1074
-read-low b e = fields b 0 (b % 2 ^ 52) (lit< tt) (omega arith) (omega arith) ∙ field-low (b % 2 ^ 52)
-
--- a normal value: q is its digits, the leading one too, and k the exponent's field less one
-pub read-mid : (b q k : ℕ) → 2 ^ 52 ≤ q → q < 2 ^ 53 → suc k < 2047 → b ≡ k * 2 ^ 52 + q → ofBits binary64 b ≡ odd 53 false q k 1074
-read-mid b q k lo hi K e =
-    fields b (suc k) (q - 2 ^ 52) (omega arith) (omega arith) (omega arith) ∙ field-mid k (q - 2 ^ 52) K ∙ ap (λ (x : ℕ). odd 53 false x k 1074) (join q lo)
-  where
-    join : (q : ℕ) → 2 ^ 52 ≤ q → 2 ^ 52 + (q - 2 ^ 52) ≡ q
-    join q h = omega arith
 
 -- ---- the root of a value, by its pattern's digits
 pub sqrt-odd : (q k : ℕ) → 0 < q → sqrtOf (odd 53 false q k 1074) ≡ rootOf 53 1074 (q * 2 ^ k * 2 ^ 1074)

@@ -8,7 +8,9 @@ pub mod Choice
 pub mod Upto
 pub mod Sqrt
 pub mod Near
+pub mod Reading
 pub mod Laws
+pub mod Limit
 pub mod Posts
 pub mod Exact
 pub mod Roots

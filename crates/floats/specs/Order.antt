@@ -61,6 +61,10 @@ pub le-ends : (s : Bool) (m : ℕ) (e : ℤ) (t : Bool) (n : ℕ) (d : ℤ) → 
 le-ends s m e t n d =
     ap₂ (λ (p q : Bool). p && q) (le-finite (not s) m e t n d) (le-finite t n d s m e) ∙ ends s (m * up e * down d) t (n * up d * down e) ∙ sym (le-finite false n d s m e)
 
+-- of two with no minus sign
+pub le-cross : (m : ℕ) (e : ℤ) (n : ℕ) (d : ℤ) → le (fin false m e) (fin false n d) ≡ true → m * up e * down d ≤ n * up d * down e
+le-cross m e n d h = leb-true (m * up e * down d) (n * up d * down e) (sym (le-finite false m e false n d) ∙ h)
+
 -- ---- of two values that are no NaN, one is below the other exactly where that one is not at or below it
 turned-ltb : (a b : ℕ) → ltb a b ≡ not (leb b a)
 turned-ltb a b = go (which (ltb a b))

@@ -74,7 +74,7 @@ sqrt-fits f (fin true (suc m) e) h = nan-fits f
 sqrt-fits f (fin false (suc m) e) h = positive-fits f (fin false (suc m) e) h (lt→ltb 0 (suc m) (zero-lt-suc m))
 
 -- ---- it is never below zero
-odd-shape : (d q k l : ℕ) → (m : ℕ) × (e : ℤ) × (odd d false q k l ≡ fin false m e)
+pub odd-shape : (d q k l : ℕ) → (m : ℕ) × (e : ℤ) × (odd d false q k l ≡ fin false m e)
 unfolding odd
 odd-shape d zero k l = (_, _, refl)
 odd-shape d (suc q) k l = (_, _, refl)
@@ -101,7 +101,7 @@ sqrt-sign f (fin false (suc n) d) m e h =
     sign : {s t : Bool} {m n : ℕ} {d e : ℤ} → fin s m d ≡ fin t n e → s ≡ t
     sign p = cc
 
-not-below : (m : ℕ) (e : ℤ) → lt (fin false m e) zeroF ≡ false
+pub not-below : (m : ℕ) (e : ℤ) → lt (fin false m e) zeroF ≡ false
 unfolding lt
 not-below m e = le-ltb (m * up e * 1) (0 * 1 * down e) (omega (arith, zero-mul (down e)))
 
@@ -130,11 +130,11 @@ sqrt-not-below f (fin false (suc m) e) =
     ap (λ (y : Float). lt y zeroF) (r .2) ∙ not-below (r .0) (r .1)
 
 -- ---- from zero on there is a root
-below-zero : (m : ℕ) (e : ℤ) → le zeroF (fin true (suc m) e) ≡ false
+pub below-zero : (m : ℕ) (e : ℤ) → le zeroF (fin true (suc m) e) ≡ false
 unfolding le
 below-zero m e = rw (ne-eqb (0 * 1 * down e) (suc m * up e * 1) (λ h. lt-irrefl 0 (omega (arith, h, zero-mul (down e), mul-pos (zero-lt-suc m) (up-pos e)))))
 
-no-minus-infinity : le zeroF (inf true) ≡ false
+pub no-minus-infinity : le zeroF (inf true) ≡ false
 unfolding le
 no-minus-infinity = refl
 
@@ -151,7 +151,7 @@ sqrt-number f (fin s zero e) h = refl
 sqrt-number f (fin true (suc m) e) h = clash h (below-zero m e)
 sqrt-number f (fin false (suc m) e) h = root-is-number (prec f) (low f) (suc m * up e * 2 ^ low f / down e * 2 ^ low f)
 
-zero-number : isNan zeroF ≡ false
+pub zero-number : isNan zeroF ≡ false
 unfolding isNan
 zero-number = refl
 
@@ -188,7 +188,7 @@ positive-mono f x y h k p q o =
     (near (prec f) l x (sqrtIn f x) r) (near (prec f) l y (sqrtIn f y) t) (r .digits) (t .leading))))
 
 -- an infinity is above every root
-to-infinity : (x : Float) → isNan x ≡ false → le x (inf false) ≡ true
+pub to-infinity : (x : Float) → isNan x ≡ false → le x (inf false) ≡ true
 unfolding le isNan
 to-infinity nan h = sym h
 to-infinity (inf true) h = refl
@@ -210,7 +210,7 @@ sqrt-zero : (f : Format) (s : Bool) (e : ℤ) → sqrtIn f (fin s 0 e) ≡ fin s
 unfolding sqrtIn
 sqrt-zero f s e = refl
 
-zero-least : (s : Bool) (e : ℤ) → le (fin s 0 e) zeroF ≡ true
+pub zero-least : (s : Bool) (e : ℤ) → le (fin s 0 e) zeroF ≡ true
 unfolding lt isNan
 zero-least s e = not-lt-le (fin s 0 e) zeroF (number s e) zero-number (go s)
   where
@@ -221,7 +221,7 @@ zero-least s e = not-lt-le (fin s 0 e) zeroF (number s e) zero-number (go s)
     go true = refl
     go false = le-ltb (0 * 1 * down e) (0 * up e * 1) (omega (arith, zero-mul (up e)))
 
-is-nan : isNan nan ≡ true
+pub is-nan : isNan nan ≡ true
 unfolding isNan
 is-nan = refl
 

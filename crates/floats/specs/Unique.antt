@@ -21,10 +21,10 @@ pub same-pattern : (f : Format) (x y : Float) → T (fits f x) → T (fits f y) 
 same-pattern f x y h k e = sym (ofBits-toBits f x h) ∙ ap (ofBits f) e ∙ ofBits-toBits f y k
 
 -- a pattern is made of the sign and of the size in units of the format's smallest value
-abbrev pattern : Format → Bool → ℕ → ℕ
+abbrev pub pattern : Format → Bool → ℕ → ℕ
 pattern f s n = let k = size n - prec f in cond s (top f) 0 + k * hid f + n / 2 ^ k
 
-pattern-is : (f : Format) (s : Bool) (m : ℕ) (e : ℤ) → toBits f (fin s m e) ≡ pattern f s (m * up e * 2 ^ low f / down e)
+pub pattern-is : (f : Format) (s : Bool) (m : ℕ) (e : ℤ) → toBits f (fin s m e) ≡ pattern f s (m * up e * 2 ^ low f / down e)
 unfolding toBits
 pattern-is f s m e = refl
 

@@ -4,13 +4,12 @@
 use mathlib.Core.Path.{_≡_, refl, sym, ap, _∙_, subst}
 use mathlib.Core.Logic.{_⊎_, inl, inr}
 use Prim.Native.Nat.{ℕ, zero, suc, _+_, _-_, _*_, _/_, _^_, _≤_, _<_, zero-le}
-use native.Mathlib.Nat.{le-refl, le-trans, le-of-eq, le-of-lt, lt-of-lt-of-le, lt-of-le-of-lt, not-le-of-lt, zero-lt-suc, zero-mul, one-mul, mul-one, mul-assoc, mul-comm, mul-right-comm, mul-mul-mul-comm, mul-pos, mul-le-mul, mul-le-mul-left, mul-le-mul-right, le-of-mul-le-mul-right, add-mul, div-lt-iff-lt-mul, div-le-of-le-mul, min-le-left}
+use native.Mathlib.Nat.{le-trans, le-of-eq, not-le-of-lt, zero-lt-suc, zero-mul, one-mul, mul-one, mul-assoc, mul-comm, mul-right-comm, mul-mul-mul-comm, mul-pos, mul-le-mul, mul-le-mul-right, le-of-mul-le-mul-right, add-mul, div-le-of-le-mul, min-le-left}
 use native.Mathlib.Omega.{arith}
 use mathlib.Core.Bool.{Bool, true, false, not, cond, _&&_, _||_, Bool·beq, Bool·not-not, true≢false, false≢true}
 use lib.Dec.{T, ltb, eqb, eqb·suc-zero, lit<, lit≤}
 use lib.Pow.{pow-pos}
-use lib.IntN.{ℤ, pos, negsuc}
-use lib.Ieee.{Float, nan, inf, fin, binary64, low, up, down, odd, units, round, sum, add, sub, neg, mul, div, lt, le, below, ofInt, toUnsigned}
+use lib.Ieee.{Float, nan, inf, fin, binary64, up, down, odd, units, round, sum, add, sub, neg, mul, div, lt, le, below, ofInt, toUnsigned}
 use lib.Ieee.Bits.{is-true}
 use lib.Ieee.Exact.{HasValue, units-val}
 use lib.Ieee.Back.{round-whole}
@@ -18,9 +17,9 @@ use lib.Ieee.Fits.{up-pos, down-pos, round-is}
 use lib.Ieee.Order.{transfer, le-of-values, round-mono, kept, drop}
 use lib.Ieee.Scale.{grid, overflow, round-val}
 use borrow.Author.Tests.{ltb-true, ltb-false, eqb-true, lt-ltb, le-ltb}
-use Rattle.basics.specs.Bools.{which, by-test, and-left, or-either, clash}
+use Rattle.basics.specs.Bools.{by-test, and-left, or-either}
 use Rattle.floats.specs.Rounded.{_⊕_, _⊖_, _⊗_, _⊘_, ofNat, truncate, pow2}
-use Rattle.floats.specs.Tests.{absOf, finite, within, maxOf}
+use Rattle.floats.specs.Tests.{finite, within, maxOf}
 use Rattle.floats.specs.Choice.{max-either}
 
 abbrev pub Upto : ℕ → Float → Type 0
