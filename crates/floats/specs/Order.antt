@@ -5,7 +5,7 @@ use Prim.Native.Nat.{ℕ, zero, suc, _+_, _*_, _≤_, _<_, zero-le}
 use native.Mathlib.Nat.{le-trans, le-of-eq, le-refl, lt-irrefl, zero-mul, mul-pos}
 use native.Mathlib.Omega.{arith}
 use mathlib.Core.Logic.{_⊎_, inl, inr}
-use mathlib.Core.Bool.{Bool, true, false, not, _&&_, _||_, true≢false, false≢true, and-true, and-false}
+use mathlib.Core.Bool.{Bool, true, false, not, _&&_, _||_, Bool·beq, true≢false, false≢true, and-true, and-false}
 use lib.Dec.{leb, ltb, eqb, eqb·zero-suc, eqb·suc-zero}
 use lib.IntN.{ℤ}
 use lib.Ieee.{Float, nan, inf, fin, up, down, lt, le, eq, isNan}
@@ -167,6 +167,38 @@ eq-self (inf true) h = refl
 eq-self (inf false) h = refl
 eq-self (fin true m e) h = both (eq-eqb (m * up e * down e) (m * up e * down e) refl) refl
 eq-self (fin false m e) h = both (eq-eqb (m * up e * down e) (m * up e * down e) refl) refl
+
+-- `==` either way round
+pub eq-turn : (x y : Float) → eq x y ≡ true → eq y x ≡ true
+unfolding eq
+eq-turn nan y h = absurd (false≢true h)
+eq-turn (inf s) nan h = h
+eq-turn (inf true) (inf t) h = go t h
+  where
+    go : (t : Bool) → Bool·beq true t ≡ true → Bool·beq t true ≡ true
+    go true h = refl
+    go false h = h
+eq-turn (inf false) (inf t) h = go t h
+  where
+    go : (t : Bool) → Bool·beq false t ≡ true → Bool·beq t false ≡ true
+    go true h = h
+    go false h = refl
+eq-turn (inf s) (fin t n d) h = h
+eq-turn (fin s m e) nan h = h
+eq-turn (fin s m e) (inf t) h = h
+eq-turn (fin s m e) (fin t n d) h = go s t (m * up e * down d) (n * up d * down e) h
+  where
+    go : (s t : Bool) (a b : ℕ) → (eqb a b && (Bool·beq s t || eqb a 0)) ≡ true → (eqb b a && (Bool·beq t s || eqb b 0)) ≡ true
+    go s t a b h =
+        let p = and-both (eqb a b) (Bool·beq s t || eqb a 0) h in
+        let e = eqb-true a b (p .0) in
+        both (eq-eqb b a (sym e)) (rw (← e) (signs s t (eqb a 0) (p .1)))
+      where
+        signs : (s t z : Bool) → (Bool·beq s t || z) ≡ true → (Bool·beq t s || z) ≡ true
+        signs true true z h = refl
+        signs true false z h = h
+        signs false true z h = h
+        signs false false z h = refl
 
 pub not-lt-le : (x y : Float) → isNan x ≡ false → isNan y ≡ false → lt y x ≡ false → le x y ≡ true
 not-lt-le x y p q h = go (le x y) (sym h ∙ lt-is-not-le y x q p)

@@ -18,7 +18,7 @@ use lib.Ieee.Order.{transfer, le-of-values, round-mono, kept, drop}
 use lib.Ieee.Scale.{grid, overflow, round-val}
 use borrow.Author.Tests.{ltb-true, ltb-false, eqb-true, lt-ltb, le-ltb}
 use Rattle.basics.specs.Bools.{by-test, and-left, or-either}
-use Rattle.floats.specs.Rounded.{_⊕_, _⊖_, _⊗_, _⊘_, ofNat, truncate, pow2}
+use Rattle.floats.specs.Rounded.{_⊕_, _⊖_, _⊗_, _⊘_, ofNat, truncate, zeroF, pow2}
 use Rattle.floats.specs.Tests.{finite, within, maxOf}
 use Rattle.floats.specs.Choice.{max-either}
 
@@ -284,3 +284,39 @@ sub-unsigned (fin s m e) nan h = absurd (false≢true h)
 sub-unsigned (fin s m e) (inf true) h = absurd (false≢true h)
 sub-unsigned (fin s m e) (inf false) h = refl
 sub-unsigned (fin s m e) (fin t n d) h = sum-unsigned t (n * up d * down e) (not s) (m * up e * down d) (down d * down e) (rw Bool·not-not h)
+
+-- ---- a value from 0 to 2 ^ k
+pub between-upto : (k : ℕ) (x : Float) → finite x ≡ true → lt (pow2 k) x ≡ false → lt x zeroF ≡ false → Upto (2 ^ k) x
+unfolding finite lt
+between-upto k nan f h z = absurd (false≢true f)
+between-upto k (inf s) f h z = absurd (false≢true f)
+between-upto k (fin true zero e) f h z = rw (zero-mul (up e)) zero-le
+between-upto k (fin true (suc m) e) f h z = absurd (true≢false (sym (lt-ltb 0 (suc m * up e * 1 + 0 * 1 * down e) (omega (arith, mul-pos (zero-lt-suc m) (up-pos e)))) ∙ z))
+between-upto k (fin false m e) f h z = rw (mul-one, one-mul) at (ltb-false (1 * 2 ^ k * down e) (m * up e * 1) h)
+
+-- ---- a product of unsigned values, and +0 is below no unsigned value
+pub mul-unsigned : (x y : Float) → finite x ≡ true → finite y ≡ true → unsigned x ≡ true → unsigned y ≡ true → unsigned (x ⊗ y) ≡ true
+unfolding mul finite
+mul-unsigned nan y f g p q = absurd (false≢true f)
+mul-unsigned (inf s) y f g p q = absurd (false≢true f)
+mul-unsigned (fin s m e) nan f g p q = absurd (false≢true g)
+mul-unsigned (fin s m e) (inf t) f g p q = absurd (false≢true g)
+mul-unsigned (fin true m e) (fin t n d) f g p q = absurd (false≢true p)
+mul-unsigned (fin false m e) (fin true n d) f g p q = absurd (false≢true q)
+mul-unsigned (fin false m e) (fin false n d) f g p q = round-unsigned (m * up e * (n * up d)) (down e * down d)
+
+pub above-unsigned : (x : Float) → lt zeroF x ≡ true → unsigned x ≡ true
+unfolding lt
+above-unsigned nan h = absurd (false≢true h)
+above-unsigned (inf true) h = absurd (false≢true h)
+above-unsigned (inf false) h = refl
+above-unsigned (fin true m e) h = absurd (false≢true h)
+above-unsigned (fin false m e) h = refl
+
+pub unsigned-above : (x : Float) → unsigned x ≡ true → le zeroF x ≡ true
+unfolding lt le
+unsigned-above nan h = absurd (false≢true h)
+unsigned-above (inf true) h = absurd (false≢true h)
+unsigned-above (inf false) h = refl
+unsigned-above (fin true m e) h = absurd (false≢true h)
+unsigned-above (fin false m e) h = is-true _ (le-of-values zeroF (fin false m e) 0 1 (m * up e) (down e) (lit< tt) (down-pos e) (refl, refl) (refl, refl) (rw (zero-mul (down e)) zero-le))

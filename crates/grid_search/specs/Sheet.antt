@@ -66,13 +66,18 @@ unfoldable pub sideOf : List Float → List Float → List ℕ → Float
 unfolding largest zipWith
 sideOf xmin xmax ns = largest (zipWith (λ (d : Float) (n : ℕ). d ⊘ ofNat n) (zipWith (λ (b a : Float). b ⊖ a) xmax xmin) ns)
 
+-- the high corner of the containers: xmin + side × divisions
+unfoldable pub coveredOf : Float → List Float → List ℕ → List Float
+unfolding zipWith
+coveredOf side xmin ns = zipWith (λ (a : Float) (n : ℕ). a ⊕ side ⊗ ofNat n) xmin ns
+
 -- the root of the dimension: √2 or √3, to the nearest binary64
 unfoldable pub diagonal : ℕ → Float
 unfolding sqrtOf
 diagonal n = sqrtOf (ofNat n)
 
 unfoldable pub build : List Float → List Float → GivenU64 → GivenF64 → GivenF64 → GridSearch
-unfolding numberOf toleranceOf borderOf lowered raised sideOf diagonal numDivisions zipWith
+unfolding numberOf toleranceOf borderOf lowered raised sideOf coveredOf diagonal numDivisions
 build lo hi number tolerance border =
     -- the divisions come from the corners before the border widens them
     let ns = numDivisions (numberOf number) lo hi in
@@ -88,7 +93,7 @@ build lo hi number tolerance border =
       «border_tol» = border;
       ndiv = divisionsOf ns;
       xmin = positionOf xmin;
-      xmax = positionOf (zipWith (λ (a : Float) (n : ℕ). a ⊕ side ⊗ ofNat n) xmin ns);
+      xmax = positionOf (coveredOf side xmin ns);
       «side_length» = side;
       «tol_dist» = d ⊗ toleranceOf tolerance;
       radius = d ⊗ side ⊘ pow2 1;
