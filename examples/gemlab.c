@@ -1,0 +1,54 @@
+/* Every function of include/gemlab.h, called from C. examples/run.sh builds and runs it. */
+#include "gemlab.h"
+
+#include <inttypes.h>
+#include <stdio.h>
+
+/* What a call gave: its result, or the number of its refusal. */
+static void tell(const char *what, uint64_t number, double result)
+{
+    if (number == 0) {
+        printf("%s: %g\n", what, result);
+    } else {
+        printf("%s: refused %" PRIu64 "\n", what, number);
+    }
+}
+
+static void distances(void)
+{
+    const double origin[2] = {0, 0}, east[2] = {8, 0}, mark[2] = {3, 4}, center[2] = {4, 2}, beside[2] = {5, 2};
+    const double foot[3] = {0, 0, 0}, top[3] = {0, 0, 10}, near_axis[3] = {3, 4, 5};
+    const double far_off[2] = {2097152, 0};
+    const double none[1] = {0};
+    double d = 0;
+    uint64_t number;
+
+    number = gemlab_point_point_distance(origin, 2, mark, 2, &d);
+    tell("from (0,0) to (3,4)", number, d);
+    number = gemlab_point_line_distance(origin, 2, east, 2, mark, 2, &d);
+    tell("from (3,4) to the line through (0,0) and (8,0)", number, d);
+    number = gemlab_point_circle_distance(center, 2, 1, beside, 2, &d);
+    tell("from (5,2) to the circle at (4,2) of radius 1", number, d);
+    number = gemlab_point_circle_distance(center, 2, 1, center, 2, &d);
+    tell("from (4,2) to that circle", number, d);
+    number = gemlab_point_cylinder_distance(foot, 3, top, 3, 2, near_axis, 3, &d);
+    tell("from (3,4,5) to the cylinder about the z axis of radius 2", number, d);
+
+    number = gemlab_point_point_distance(none, 0, mark, 2, &d);
+    tell("from no position", number, d);
+    number = gemlab_point_point_distance(origin, 2, top, 3, &d);
+    tell("from a position in 2D to one in 3D", number, d);
+    number = gemlab_point_point_distance(origin, 2, far_off, 2, &d);
+    tell("to a coordinate past its limit", number, d);
+    number = gemlab_point_line_distance(mark, 2, mark, 2, origin, 2, &d);
+    tell("to a line with one end twice", number, d);
+    number = gemlab_point_circle_distance(foot, 3, 1, top, 3, &d);
+    tell("to a circle in 3D", number, d);
+    printf("a refusal leaves the result as it was: %g\n", d);
+}
+
+int main(void)
+{
+    distances();
+    return 0;
+}
