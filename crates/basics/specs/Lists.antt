@@ -3,8 +3,8 @@
 use Prim.Native.Nat.{ℕ, zero, suc, _+_, _≤_, _<_}
 use native.Mathlib.Nat.{not-suc-le-zero, le-of-suc-le-suc}
 use native.Mathlib.Numerals.{add-one}
-use mathlib.Core.Path.{_≡_, refl, _∙_}
-use mathlib.Core.Bool.{Bool, true, false, cond, _&&_, _||_}
+use mathlib.Core.Path.{_≡_, refl, sym, _∙_}
+use mathlib.Core.Bool.{Bool, true, false, cond, _&&_, _||_, and-true, and-assoc}
 use mathlib.Core.List.{List, [], _∷_, _++_}
 use lib.Dec.{ltb, eqb}
 use lib.ListN.{length, getD, take, drop, drop-of-length-le}
@@ -80,3 +80,13 @@ module _ {A : Type 0} where
     pub all-end : length xs ≤ i → all p xs ≡ true
     unfolding all
     all-end h = walk ∙ rw (drop-of-length-le xs h)
+
+  -- The same walk without a stop: whether all entries so far pass, joined to what is left.
+  module _ (p : A → Bool) (xs : List A) (i : ℕ) (ok : Bool) (walk : all p xs ≡ (ok && all p (drop i xs))) where
+    pub all-join : (d : A) → i < length xs → all p xs ≡ (ok && p (getD xs i d) && all p (drop (i + 1) xs))
+    unfolding all
+    all-join d h = walk ∙ rw (drop-cons xs i d h, add-one) (sym (and-assoc ok (p (getD xs i d)) (all p (drop (suc i) xs))))
+
+    pub all-joined : length xs ≤ i → all p xs ≡ ok
+    unfolding all
+    all-joined h = walk ∙ rw (drop-of-length-le xs h) (and-true ok)

@@ -3,11 +3,10 @@
 // `triangle.rs` and `tetrahedron.rs`.
 ghost use Prim.Native.Nat.{ℕ};
 ghost use mathlib.Core.Path.{_≡_};
-ghost use mathlib.Core.Bool.{true, _&&_};
+ghost use mathlib.Core.Bool.{true};
 ghost use mathlib.Core.List.{[], _∷_};
-ghost use lib.Dec.{eqb};
 ghost use lib.Ieee.{Float};
-ghost use lib.ListN.{length, getD};
+ghost use lib.ListN.{getD};
 ghost use Rattle.basics.specs.Lists.{all};
 ghost use Rattle.basics.specs.Refusals.{refuse, fault, answer, through};
 ghost use Rattle.floats.specs.Rounded.{_⊖_, zeroF};
@@ -92,18 +91,18 @@ pub fn is_coordinate(x: f64) -> bool
     floats::is_within(LIMIT, x)
 }
 
-// Whether every entry may be a coordinate.
+// Whether every entry may be a coordinate. The loop has no other way out, so that a long list is tested several entries at
+// a time.
 pub fn all_coordinates(x: &[f64]) -> bool
     ensures { λ r. ⌜ r ≡ all coordinate (now (x .entry)) ⌝ }
 {
+    let mut ok = true;
     let mut i = 0;
     while i < x.len() {
-        if !is_coordinate(x[i]) {
-            return false;
-        }
+        ok = ok & is_coordinate(x[i]);
         i += 1;
     }
-    true
+    ok
 }
 
 // Whether every coordinate of p on the axes in use is one.
@@ -213,24 +212,24 @@ pub fn point_point_distance(a: &[f64], b: &[f64]) -> Measured
     if b.len() != ndim {
         return Measured::Refused(2);
     }
-    if !(all_coordinates(a) & all_coordinates(b)) {
+    let pa = Position::new(a);
+    let pb = Position::new(b);
+    if !(position_ok(ndim, pa) & position_ok(ndim, pb)) {
         return Measured::Refused(3);
     }
-    Measured::Distance(point_point(ndim, Position::new(a), Position::new(b)))
+    Measured::Distance(point_point(ndim, pa, pb))
 }
 
 // The distance of c to the line through a and b, or the refusal 15.
-fn line_distance(a: &[f64], b: &[f64], c: &[f64]) -> Measured
-    requires { ⌜ dimension (length (now a)) ≡ true ⌝ }
-    requires { ⌜ (eqb (length (now b)) (length (now a)) && eqb (length (now c)) (length (now a))) ≡ true ⌝ }
-    ensures { λ r. ⌜ measured r ≡ answer (fault (refuse 15 (tooClose (now (a .entry)) (now (b .entry))) ∷ [])) (pointLine (now (a .entry)) (now (b .entry)) (now (c .entry))) ⌝ }
+fn line_distance(ndim: usize, a: Position, b: Position, c: Position) -> Measured
+    requires { ⌜ dimension ndim ≡ true ⌝ }
+    ensures { λ r. ⌜ measured r ≡ answer (fault (refuse 15 (tooClose (coords ndim a) (coords ndim b)) ∷ [])) (pointLine (coords ndim a) (coords ndim b) (coords ndim c)) ⌝ }
 {
-    let ndim = a.len();
-    let line = Line::new(ndim, Position::new(a), Position::new(b));
+    let line = Line::new(ndim, a, b);
     if line.too_close() {
         return Measured::Refused(15);
     }
-    Measured::Distance(line.distance(ndim, Position::new(c)))
+    Measured::Distance(line.distance(ndim, c))
 }
 
 // The distance to a centre less the radius.
@@ -254,10 +253,13 @@ pub fn point_line_distance(a: &[f64], b: &[f64], c: &[f64]) -> Measured
     if !((b.len() == ndim) & (c.len() == ndim)) {
         return Measured::Refused(2);
     }
-    if !(all_coordinates(a) & (all_coordinates(b) & all_coordinates(c))) {
+    let pa = Position::new(a);
+    let pb = Position::new(b);
+    let pc = Position::new(c);
+    if !(position_ok(ndim, pa) & (position_ok(ndim, pb) & position_ok(ndim, pc))) {
         return Measured::Refused(3);
     }
-    line_distance(a, b, c)
+    line_distance(ndim, pa, pb, pc)
 }
 
 // The signed distance of p to a circle in the plane, negative inside, or the refusal 1, 16, 2 or 3.
@@ -274,10 +276,12 @@ pub fn point_circle_distance(center: &[f64], radius: f64, p: &[f64]) -> Measured
     if p.len() != ndim {
         return Measured::Refused(2);
     }
-    if !(all_coordinates(center) & (is_coordinate(radius) & all_coordinates(p))) {
+    let pc = Position::new(center);
+    let pp = Position::new(p);
+    if !(position_ok(ndim, pc) & (is_coordinate(radius) & position_ok(ndim, pp))) {
         return Measured::Refused(3);
     }
-    let center_distance = point_point(ndim, Position::new(center), Position::new(p));
+    let center_distance = point_point(ndim, pc, pp);
     Measured::Distance(center_distance - radius)
 }
 
@@ -296,10 +300,14 @@ pub fn point_cylinder_distance(a: &[f64], b: &[f64], radius: f64, p: &[f64]) -> 
     if !((b.len() == ndim) & (p.len() == ndim)) {
         return Measured::Refused(2);
     }
-    if !(all_coordinates(a) & (all_coordinates(b) & (is_coordinate(radius) & all_coordinates(p)))) {
+    let pa = Position::new(a);
+    let pb = Position::new(b);
+    let pp = Position::new(p);
+    if !(position_ok(ndim, pa)
+        & (position_ok(ndim, pb) & (is_coordinate(radius) & position_ok(ndim, pp)))) {
         return Measured::Refused(3);
     }
-    reduced(line_distance(a, b, p), radius)
+    reduced(line_distance(ndim, pa, pb, pp), radius)
 }
 
 // The three coordinates of xp in the triangle xa, xb, xc.

@@ -1,17 +1,19 @@
 -- `geometry::point_cylinder_distance` meets its contract. Assumes nothing.
 use mathlib.Core.Bool.{true, _&&_}
 use mathlib.Core.List.{[], _∷_}
-use mathlib.Core.Path.{ap₂, _≡_, sym, ap, _∙_}
+use mathlib.Core.Path.{ap₂, _≡_, refl, sym, ap, _∙_}
 use lib.Dec.{eqb}
 use lib.Ieee.{Float}
 use lib.ListN.{length}
 use borrow.Author.Needs.{needs}
-use borrow.Author.Tests.{eq-eqb, ne-eqb, not-true, not-false}
+use borrow.Author.Tests.{eq-eqb, ne-eqb, eqb-true, not-true, not-false}
+use Rattle.basics.specs.Bools.{and-both}
 use Rattle.basics.specs.Lists.{all}
 use Rattle.basics.specs.Refusals.{refuse, fault, through, through-answer}
 use Rattle.floats.specs.Rounded.{_⊖_}
+use Rattle.geometry.specs.Axes.{coords-of}
 use Rattle.geometry.specs.Distances.{tooClose, pointLine, pointCylinderAnswer}
-use Rattle.geometry.specs.Position.{dimension, coordinate}
+use Rattle.geometry.specs.Position.{coords, dimension, coordinate}
 use Rattle.geometry.proofs.point_cylinder_distance.Statement.{statement}
 use Rattle.geometry.proofs.point_cylinder_distance.Tie as tie
 
@@ -24,10 +26,21 @@ past-2 c = eq-eqb _ 3 (c .if2 .left)
 past-3 : (c : tie.Else3) → let s = c .before .before .before .before .before .before .before .args in (eqb (length (s .b .now)) (length (s .a .now)) && eqb (length (s .p .now)) (length (s .a .now))) ≡ true
 past-3 c = not-false _ (c .if3 .left)
 
-judged : (c : tie.After-all-coordinates3) → let s = c .before .before .before .before .before .before .before .before .before .before .before .args in (c .before .before .before .all-coordinates .result && (c .before .before .all-coordinates2 .result && (c .before .is-coordinate .result && c .all-coordinates3 .result))) ≡ (all coordinate (s .a .now) && (all coordinate (s .b .now) && (coordinate (s .radius) && all coordinate (s .p .now))))
-judged c = ap₂ _&&_ (c .before .before .before .all-coordinates .ensures) (ap₂ _&&_ (c .before .before .all-coordinates2 .ensures) (ap₂ _&&_ (c .before .is-coordinate .ensures) (c .all-coordinates3 .ensures)))
+-- each position has the coordinates of its list
+made : (c : tie.After-new3) → let s = c .before .before .before .before .before .before .before .before .before .before .args in (coords (length (s .a .now)) (c .before .before .new .result) ≡ s .a .now) × (coords (length (s .a .now)) (c .before .new2 .result) ≡ s .b .now) × (coords (length (s .a .now)) (c .new3 .result) ≡ s .p .now)
+made c =
+    let s = c .before .before .before .before .before .before .before .before .before .before .args in
+    let d = past-1 (c .before .before .before .before .before) in
+    let lengths = and-both (eqb (length (s .b .now)) (length (s .a .now))) (eqb (length (s .p .now)) (length (s .a .now))) (past-3 (c .before .before .before)) in (
+      coords-of (length (s .a .now)) (s .a .now) (c .before .before .new .result) d refl (c .before .before .new .ensures),
+      coords-of (length (s .a .now)) (s .b .now) (c .before .new2 .result) d (eqb-true _ _ (lengths .0)) (c .before .new2 .ensures),
+      coords-of (length (s .a .now)) (s .p .now) (c .new3 .result) d (eqb-true _ _ (lengths .1)) (c .new3 .ensures),
+    )
 
-past-4 : (c : tie.Else4) → let s = c .before .before .before .before .before .before .before .before .before .before .before .before .args in (all coordinate (s .a .now) && (all coordinate (s .b .now) && (coordinate (s .radius) && all coordinate (s .p .now)))) ≡ true
+judged : (c : tie.After-position-ok3) → let s = c .before .before .before .before .before .before .before .before .before .before .before .before .before .before .args in (c .before .before .before .position-ok .result && (c .before .before .position-ok2 .result && (c .before .is-coordinate .result && c .position-ok3 .result))) ≡ (all coordinate (s .a .now) && (all coordinate (s .b .now) && (coordinate (s .radius) && all coordinate (s .p .now))))
+judged c = let m = made (c .before .before .before .before) in ap₂ _&&_ (c .before .before .before .position-ok .ensures ∙ ap (all coordinate) (m .0)) (ap₂ _&&_ (c .before .before .position-ok2 .ensures ∙ ap (all coordinate) (m .1)) (ap₂ _&&_ (c .before .is-coordinate .ensures) (c .position-ok3 .ensures ∙ ap (all coordinate) (m .2))))
+
+past-4 : (c : tie.Else4) → let s = c .before .before .before .before .before .before .before .before .before .before .before .before .before .before .before .args in (all coordinate (s .a .now) && (all coordinate (s .b .now) && (coordinate (s .radius) && all coordinate (s .p .now)))) ≡ true
 past-4 c = sym (judged (c .before)) ∙ not-false _ (c .if4 .left)
 
 is-dimension-requires : tie.Need-is-dimension-requires
@@ -45,24 +58,33 @@ returns-3 : tie.Need-returns-3
 unfolding pointCylinderAnswer
 returns-3 c = rw (past-1 (c .before .before), past-2 (c .before), c .if3 .taken)
 
-all-coordinates-requires : tie.Need-all-coordinates-requires
-all-coordinates-requires c κs = search needs
+new-requires : tie.Need-new-requires
+new-requires c κs = search needs
 
-all-coordinates-requires-2 : tie.Need-all-coordinates-requires-2
-all-coordinates-requires-2 c κs = search needs
+new-requires-2 : tie.Need-new-requires-2
+new-requires-2 c κs = search needs
+
+new-requires-3 : tie.Need-new-requires-3
+new-requires-3 c κs = search needs
+
+position-ok-requires : tie.Need-position-ok-requires
+position-ok-requires c κs = past-1 (c .before .before .before .before .before)
+
+position-ok-requires-2 : tie.Need-position-ok-requires-2
+position-ok-requires-2 c κs = past-1 (c .before .before .before .before .before .before)
 
 is-coordinate-requires : tie.Need-is-coordinate-requires
 is-coordinate-requires c κs = search needs
 
-all-coordinates-requires-3 : tie.Need-all-coordinates-requires-3
-all-coordinates-requires-3 c κs = search needs
+position-ok-requires-3 : tie.Need-position-ok-requires-3
+position-ok-requires-3 c κs = past-1 (c .before .before .before .before .before .before .before .before)
 
 returns-4 : tie.Need-returns-4
 unfolding pointCylinderAnswer
-returns-4 c = rw (past-1 (c .before .before .before .before .before .before .before), past-2 (c .before .before .before .before .before .before), past-3 (c .before .before .before .before .before), sym (judged (c .before)) ∙ not-true _ (c .if4 .taken))
+returns-4 c = rw (past-1 (c .before .before .before .before .before .before .before .before .before .before), past-2 (c .before .before .before .before .before .before .before .before .before), past-3 (c .before .before .before .before .before .before .before .before), sym (judged (c .before)) ∙ not-true _ (c .if4 .taken))
 
 line-distance-requires : tie.Need-line-distance-requires
-line-distance-requires c κs = (past-1 (c .before .before .before .before .before .before .before), past-3 (c .before .before .before .before .before))
+line-distance-requires c κs = past-1 (c .before .before .before .before .before .before .before .before .before .before)
 
 reduced-requires : tie.Need-reduced-requires
 reduced-requires c κs = search needs
@@ -70,11 +92,12 @@ reduced-requires c κs = search needs
 returns-5 : tie.Need-returns-5
 unfolding pointCylinderAnswer
 returns-5 c =
-    let s = c .before .before .before .before .before .before .before .before .before .before .before .before .before .before .args in
+    let s = c .before .before .before .before .before .before .before .before .before .before .before .before .before .before .before .before .before .args in
+    let m = made (c .before .before .before .before .before .before .before) in
     let less : Float → Float = λ (d : Float). d ⊖ s .radius in
     let close = fault (refuse 15 (tooClose (s .a .now) (s .b .now)) ∷ []) in
-    rw (past-1 (c .before .before .before .before .before .before .before .before .before), past-2 (c .before .before .before .before .before .before .before .before), past-3 (c .before .before .before .before .before .before .before), past-4 (c .before .before))
-    (c .reduced .ensures ∙ ap (through less) (c .before .line-distance .ensures) ∙ through-answer less close (pointLine (s .a .now) (s .b .now) (s .p .now)))
+    rw (past-1 (c .before .before .before .before .before .before .before .before .before .before .before .before), past-2 (c .before .before .before .before .before .before .before .before .before .before .before), past-3 (c .before .before .before .before .before .before .before .before .before .before), past-4 (c .before .before))
+    (c .reduced .ensures ∙ ap (through less) (rw (m .0, m .1, m .2) at (c .before .line-distance .ensures)) ∙ through-answer less close (pointLine (s .a .now) (s .b .now) (s .p .now)))
 
 pub point-cylinder-distance-spec : {M : Type 1} → statement M
 point-cylinder-distance-spec =
@@ -84,10 +107,13 @@ point-cylinder-distance-spec =
     returns
     returns-2
     returns-3
-    all-coordinates-requires
-    all-coordinates-requires-2
+    new-requires
+    new-requires-2
+    new-requires-3
+    position-ok-requires
+    position-ok-requires-2
     is-coordinate-requires
-    all-coordinates-requires-3
+    position-ok-requires-3
     returns-4
     line-distance-requires
     reduced-requires
