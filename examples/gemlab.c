@@ -47,8 +47,35 @@ static void distances(void)
     printf("a refusal leaves the result as it was: %g\n", d);
 }
 
+static void sheets(void)
+{
+    const double low[2] = {0, 0}, high[2] = {8, 4}, low_3d[3] = {-1, -1, -1}, high_3d[3] = {1, 1, 1};
+    uint64_t numbers[GEMLAB_SHEET_NUMBERS] = {0};
+    double floats[GEMLAB_SHEET_FLOATS] = {0};
+    uint64_t number;
+
+    number = gemlab_grid_search_new(low, 2, high, 2, 1, 8, 1, 1.0 / 512, 1, 0,
+                                    numbers, GEMLAB_SHEET_NUMBERS, floats, GEMLAB_SHEET_FLOATS);
+    tell("side of the containers from (0,0) to (8,4) with 8 divisions", number, floats[14]);
+    printf("divisions along x and y: %" PRIu64 ", %" PRIu64 "\n", numbers[5], numbers[6]);
+    number = gemlab_grid_search_new(low, 2, high, 2, 1, 8, 1, 0.5, 1, 0,
+                                    numbers, GEMLAB_SHEET_NUMBERS, floats, GEMLAB_SHEET_FLOATS);
+    tell("side with a tolerance of half a side", number, floats[14]);
+    number = gemlab_grid_search_new(high, 2, low, 2, 0, 0, 0, 0, 0, 0,
+                                    numbers, GEMLAB_SHEET_NUMBERS, floats, GEMLAB_SHEET_FLOATS);
+    tell("side with the corners turned round", number, floats[14]);
+    number = gemlab_grid_search_new(low, 2, high, 2, 0, 0, 0, 0, 0, 0,
+                                    numbers, 7, floats, GEMLAB_SHEET_FLOATS);
+    tell("side with a list that is too short", number, floats[14]);
+    printf("a refusal leaves the sheet as it was: %" PRIu64 " divisions, side %g\n", numbers[5], floats[14]);
+    number = gemlab_grid_search_new(low_3d, 3, high_3d, 3, 0, 0, 0, 0, 0, 0,
+                                    numbers, GEMLAB_SHEET_NUMBERS, floats, GEMLAB_SHEET_FLOATS);
+    tell("side from (-1,-1,-1) to (1,1,1) with every setting left out", number, floats[14]);
+}
+
 int main(void)
 {
     distances();
+    sheets();
     return 0;
 }

@@ -111,6 +111,51 @@ uint64_t gemlab_point_cylinder_distance(const double *a, size_t a_len,
                                         const double *p, size_t p_len,
                                         double *distance);
 
+/*
+ * The sheet.
+ *
+ * A sheet divides a box into containers of one side. It stands in two lists of the caller's, made by
+ * gemlab_grid_search_new and handed to the calls on it: 8 numbers and 17 floats.
+ *
+ *     numbers  0      dimension
+ *              1, 2   divisions given (0 or 1), and their number (0 where left out)
+ *              3      tolerance given (0 or 1)
+ *              4      border given (0 or 1)
+ *              5..7   divisions along x, y, z (z: 1 in 2D)
+ *     floats   0..2   low corner x, y, z
+ *              3..5   high corner x, y, z
+ *              6, 7   tolerance, border (each +0 where left out)
+ *              8..10  xmin x, y, z: the low corner less the border
+ *              11..13 xmax x, y, z: xmin plus side times divisions
+ *              14     side length of a container
+ *              15     tol_dist: within this distance two points count as the same
+ *              16     radius of the circle or sphere about a container
+ *
+ * In 2D every z among the floats is +0. Settings are kept bit for bit. A sheet that is handed to a
+ * call is damaged (13) where it is not, bit for bit, what gemlab_grid_search_new writes for its
+ * settings.
+ *
+ * T_given says of a setting T whether it is given: 0 means left out, and T is not read. Left out
+ * means 100 divisions, tolerance 1e-4, border 1e-2.
+ */
+#define GEMLAB_SHEET_NUMBERS 8
+#define GEMLAB_SHEET_FLOATS 17
+
+/*
+ * The sheet with corners xmin and xmax, with ndiv divisions along the first longest axis and as many
+ * along another as its length allows, 1 at least; into the two lists. The border widens the box on
+ * every side after the divisions are chosen. A border of -0 is one of 0.
+ * Refusals: 13 (a list is not of its length), 1 (length of xmin), 2 (length of xmax), 3, 4, 5, 6, 7,
+ * 8, 9, 10.
+ */
+uint64_t gemlab_grid_search_new(const double *xmin, size_t xmin_len,
+                                const double *xmax, size_t xmax_len,
+                                uint64_t ndiv_given, uint64_t ndiv,
+                                uint64_t tolerance_given, double tolerance,
+                                uint64_t border_tol_given, double border_tol,
+                                uint64_t *numbers, size_t numbers_len,
+                                double *floats, size_t floats_len);
+
 #ifdef __cplusplus
 }
 #endif

@@ -7,6 +7,7 @@ mod floats;
 mod geometry;
 mod near;
 mod random;
+mod sheet;
 mod tally;
 mod timing;
 
@@ -18,6 +19,8 @@ const PARTS: &[(&str, fn(&mut Tally))] = &[
     ("bench-floats", floats::measure),
     ("geometry", geometry::compare),
     ("bench-geometry", geometry::measure),
+    ("sheet", sheet::compare),
+    ("bench-sheet", sheet::measure),
 ];
 
 fn main() -> ExitCode {
