@@ -1,0 +1,217 @@
+use crate::c;
+use crate::{Refusal, Sheet};
+
+/// Marks filed in the containers of a sheet: a row for each container and id.
+///
+/// The rows are plain data of the caller's: every call checks them (24, 13), and works in the space that they have.
+#[derive(Clone, Debug, Default, PartialEq)]
+pub struct Library {
+    /// The container of each row; the rows in use are in strict order of key and then id.
+    pub keys: Vec<u64>,
+    /// The mark's id.
+    pub ids: Vec<u64>,
+    /// The mark's coordinates.
+    pub xs: Vec<f64>,
+    /// The mark's coordinates.
+    pub ys: Vec<f64>,
+    /// The mark's coordinates: +0 in 2D.
+    pub zs: Vec<f64>,
+    /// How many rows are in use.
+    pub used: u64,
+}
+
+/// Where marks are listed.
+#[derive(Clone, Copy, Debug, PartialEq)]
+pub enum Place<'a> {
+    /// The line through `a` and `b`.
+    Line {
+        /// A point of the line.
+        a: &'a [f64],
+        /// Another one.
+        b: &'a [f64],
+    },
+    /// A circle in the plane.
+    Circle {
+        /// Its centre.
+        center: &'a [f64],
+        /// Its radius, which may be negative.
+        radius: f64,
+    },
+    /// A cylinder in space, whose axis is the line through `a` and `b`.
+    Cylinder {
+        /// A point of the axis.
+        a: &'a [f64],
+        /// Another one.
+        b: &'a [f64],
+        /// Its radius, which may be negative.
+        radius: f64,
+    },
+    /// The plane of all points with this z.
+    PlaneXY(f64),
+    /// The plane of all points with this x.
+    PlaneYZ(f64),
+    /// The plane of all points with this y.
+    PlaneXZ(f64),
+}
+
+/// Which of the marks on a place are kept.
+#[derive(Clone, Copy, Debug, PartialEq)]
+pub enum Filter {
+    /// All of them.
+    Everything,
+    /// Those whose coordinate on `axis` is at least `low` and at most `high`.
+    Range {
+        /// 0 for x, 1 for y, 2 for z.
+        axis: u64,
+        /// The low end.
+        low: f64,
+        /// The high end; below `low`, nothing is kept.
+        high: f64,
+    },
+}
+
+impl Library {
+    /// A library with space for so many rows, none in use. A mark takes one row for each container that it touches: at
+    /// most 4 in 2D and 8 in 3D.
+    pub fn with_space(rows: usize) -> Library {
+        Library {
+            keys: vec![0; rows],
+            ids: vec![0; rows],
+            xs: vec![0.0; rows],
+            ys: vec![0.0; rows],
+            zs: vec![0.0; rows],
+            used: 0,
+        }
+    }
+
+    /// Files the mark `id` at `x` in its container and in those that its halo touches. Where it has a row, the row takes
+    /// the new coordinates; its rows elsewhere stay.
+    ///
+    /// Refusals: 24, 13, 2, 3, 11, 17, 12.
+    pub fn insert(&mut self, sheet: &Sheet, id: u64, x: &[f64]) -> Result<(), Refusal> {
+        // SAFETY: each list is a slice's, an array's or a vector's pointer and length; what is written are fields of
+        // `self`, which is borrowed alone: five vectors with memory of their own, and the count.
+        let number = unsafe {
+            c::gemlab_grid_search_insert(
+                sheet.numbers.as_ptr(),
+                sheet.numbers.len(),
+                sheet.floats.as_ptr(),
+                sheet.floats.len(),
+                self.keys.as_mut_ptr(),
+                self.keys.len(),
+                self.ids.as_mut_ptr(),
+                self.ids.len(),
+                self.xs.as_mut_ptr(),
+                self.xs.len(),
+                self.ys.as_mut_ptr(),
+                self.ys.len(),
+                self.zs.as_mut_ptr(),
+                self.zs.len(),
+                &mut self.used,
+                id,
+                x.as_ptr(),
+                x.len(),
+            )
+        };
+        Refusal::judge(number)
+    }
+
+    /// The lowest id of a mark that is near `x`, within the sheet's `tol_dist`, in the container of `x`.
+    ///
+    /// Refusals: 24, 13, 2, 3, 11, 17.
+    pub fn search(&self, sheet: &Sheet, x: &[f64]) -> Result<Option<u64>, Refusal> {
+        let (mut found, mut id) = (0, 0);
+        // SAFETY: each list is a slice's, an array's or a vector's pointer and length; what is written are two locals.
+        let number = unsafe {
+            c::gemlab_grid_search_search(
+                sheet.numbers.as_ptr(),
+                sheet.numbers.len(),
+                sheet.floats.as_ptr(),
+                sheet.floats.len(),
+                self.keys.as_ptr(),
+                self.keys.len(),
+                self.ids.as_ptr(),
+                self.ids.len(),
+                self.xs.as_ptr(),
+                self.xs.len(),
+                self.ys.as_ptr(),
+                self.ys.len(),
+                self.zs.as_ptr(),
+                self.zs.len(),
+                self.used,
+                x.as_ptr(),
+                x.len(),
+                &mut found,
+                &mut id,
+            )
+        };
+        Refusal::judge(number).map(|()| (found == 1).then_some(id))
+    }
+
+    /// The ids of the marks on a place, ascending, once each.
+    ///
+    /// Refusals: 24, 13, 16, 2, 3, 15.
+    pub fn list(&self, sheet: &Sheet, place: Place, filter: Filter) -> Result<Vec<u64>, Refusal> {
+        // a listing has at most one id for each row in use
+        let rows = usize::try_from(self.used).map_or(self.ids.len(), |used| used.min(self.ids.len()));
+        let mut list = vec![0; rows];
+        let count = self.list_into(sheet, place, filter, &mut list)?;
+        list.truncate(count);
+        Ok(list)
+    }
+
+    /// The same into a list of the caller's, and how many ids there are; the list beyond them is untouched.
+    ///
+    /// Refusals: 24, 13, 16, 2, 3, 15, 14.
+    pub fn list_into(&self, sheet: &Sheet, place: Place, filter: Filter, list: &mut [u64]) -> Result<usize, Refusal> {
+        let (place, a, b, number): (u64, &[f64], &[f64], f64) = match place {
+            Place::Line { a, b } => (0, a, b, 0.0),
+            Place::Circle { center, radius } => (1, center, &[], radius),
+            Place::Cylinder { a, b, radius } => (2, a, b, radius),
+            Place::PlaneXY(z) => (3, &[], &[], z),
+            Place::PlaneYZ(x) => (4, &[], &[], x),
+            Place::PlaneXZ(y) => (5, &[], &[], y),
+        };
+        let (filter, axis, low, high) = match filter {
+            Filter::Everything => (0, 0, 0.0, 0.0),
+            Filter::Range { axis, low, high } => (1, axis, low, high),
+        };
+        let mut count = 0;
+        // SAFETY: each list is a slice's, an array's or a vector's pointer and length, and an empty slice's pointer is
+        // aligned and not null too; what is written are a slice that is borrowed alone, and a local.
+        let number = unsafe {
+            c::gemlab_grid_search_list(
+                sheet.numbers.as_ptr(),
+                sheet.numbers.len(),
+                sheet.floats.as_ptr(),
+                sheet.floats.len(),
+                self.keys.as_ptr(),
+                self.keys.len(),
+                self.ids.as_ptr(),
+                self.ids.len(),
+                self.xs.as_ptr(),
+                self.xs.len(),
+                self.ys.as_ptr(),
+                self.ys.len(),
+                self.zs.as_ptr(),
+                self.zs.len(),
+                self.used,
+                place,
+                a.as_ptr(),
+                a.len(),
+                b.as_ptr(),
+                b.len(),
+                number,
+                filter,
+                axis,
+                low,
+                high,
+                list.as_mut_ptr(),
+                list.len(),
+                &mut count,
+            )
+        };
+        // the count is at most the list's length, a usize
+        Refusal::judge(number).map(|()| count as usize)
+    }
+}
