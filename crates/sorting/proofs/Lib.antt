@@ -4,3 +4,4 @@ pub mod Orders
 pub mod Mixes
 pub mod Heaps
 pub mod Distinct
+pub mod Parts
