@@ -1,0 +1,3 @@
+-- The words of the contracts of module 8.
+pub mod Place
+pub mod Listing
