@@ -1,16 +1,18 @@
--- Laws of numbers and lists that the kit lacks: the three cases of two numbers, `tab`, and `map` of a part of a list.
+-- Laws of numbers and lists that the kit lacks: the three cases of two numbers, `tab`, `keep`, `map` of a part of a list, and tests of every entry.
 -- Assumes nothing.
-use Prim.Native.Nat.{ℕ, zero, suc, _≤_, _<_}
+use Prim.Native.Nat.{ℕ, zero, suc, _+_, _≤_, _<_, zero-le, suc-le-suc}
 use native.Mathlib.Nat.{le-of-suc-le-suc, not-suc-le-zero}
+use native.Mathlib.Numerals.{add-one}
 use native.Mathlib.Omega.{arith}
-use mathlib.Core.Path.{_≡_, refl, sym, ap}
+use mathlib.Core.Path.{_≡_, refl, sym, ap, ap₂}
 use mathlib.Core.Logic.{_⊎_, inl, inr}
-use mathlib.Core.Bool.{Bool, true, false, cond, _&&_, _||_}
+use mathlib.Core.Bool.{Bool, true, false, cond, _&&_, _||_, and-true, and-assoc}
 use mathlib.Core.List.{List, [], _∷_, _++_, map, map-append}
 use lib.ListN.{length, getD, take, drop}
+use lib.Seq.{slice-cons, slice-empty}
 use lib.Dec.{ltb, leb, eqb}
 use borrow.Author.Tests.{ltb-true, ltb-false, eqb-true, eqb-false, le-leb, lt-leb}
-use Rattle.basics.specs.Bools.{by-test, and-left, and-right}
+use Rattle.basics.specs.Bools.{by-test, both, and-left, and-right}
 use Rattle.basics.specs.Lists.{all, keep, tab}
 
 -- ---- numbers
@@ -91,3 +93,43 @@ module _ {A B : Type 0} where
 
   pub map-around : (f : A → B) (i j : ℕ) (r : A) (l : List A) → map f (take i l ++ r ∷ drop j l) ≡ take i (map f l) ++ f r ∷ drop j (map f l)
   map-around f i j r l = simp (map-append, map-take, map-drop)
+
+-- ---- tests of every entry
+
+module _ {A : Type 0} where
+  pub all-both : (p q : A → Bool) (l : List A) → all (λ (x : A). p x && q x) l ≡ (all p l && all q l)
+  unfolding all
+  all-both p q [] = refl
+  all-both p q (x ∷ l) = rw (all-both p q l) (swapped (p x) (q x) (all p l) (all q l))
+    where
+      swapped : (a b c d : Bool) → ((a && b) && (c && d)) ≡ ((a && c) && (b && d))
+      swapped false b c d = refl
+      swapped true false false d = refl
+      swapped true false true d = refl
+      swapped true true c d = refl
+
+  pub all-same : (p q : A → Bool) (l : List A) → ((x : A) → p x ≡ q x) → all p l ≡ all q l
+  unfolding all
+  all-same p q [] e = refl
+  all-same p q (x ∷ l) e = ap₂ (λ (a b : Bool). a && b) (e x) (all-same p q l e)
+
+  pub all-map : {B : Type 0} (p : A → Bool) (f : B → A) (l : List B) → all p (map f l) ≡ all (λ (x : B). p (f x)) l
+  unfolding all
+  all-map p f [] = refl
+  all-map p f (x ∷ l) = ap (λ (b : Bool). p (f x) && b) (all-map p f l)
+
+  -- a walk over the first n with a flag that holds what was passed: a turn, and the end
+  pub all-turn : (p : A → Bool) (n : ℕ) (s : List A) (d : A) (i : ℕ) (ok : Bool) → i < n → n ≤ length s
+      → (ok && all p (drop i (take n s))) ≡ ((ok && p (getD s i d)) && all p (drop (i + 1) (take n s)))
+  unfolding all
+  all-turn p n s d i ok h k = rw (add-one, slice-cons i n s d h k) (sym (and-assoc ok (p (getD s i d)) (all p (drop (suc i) (take n s)))))
+
+  pub all-end : (p : A → Bool) (n : ℕ) (s : List A) (i : ℕ) (ok : Bool) → i ≤ n → n ≤ i → (ok && all p (drop i (take n s))) ≡ ok
+  unfolding all
+  all-end p n s i ok h k = let e : i ≡ n = omega arith in rw (e, slice-empty n s) (and-true ok)
+
+  -- every entry by its index
+  pub all-tab : (p : A → Bool) (n : ℕ) (f : ℕ → A) → ((i : ℕ) → i < n → p (f i) ≡ true) → all p (tab n f) ≡ true
+  unfolding all
+  all-tab p zero f h = refl
+  all-tab p (suc n) f h = both (h 0 (suc-le-suc zero-le)) (all-tab p n (λ i. f (suc i)) (λ i l. h (suc i) (suc-le-suc l)))

@@ -1,7 +1,7 @@
 -- What turns a call away. A call's tests stand in the order of document 01's line 'Order', and the first that fails gives the number.
 -- Assumes nothing.
 use Prim.Native.Nat.{ℕ}
-use mathlib.Core.Path.{_≡_, refl, sym}
+use mathlib.Core.Path.{_≡_, refl, sym, ap}
 use mathlib.Core.Logic.{_⊎_, inl, inr}
 use mathlib.Core.Bool.{Bool, true, false, cond}
 use mathlib.Core.Option.{Option, none, some, Option·some-ne-none}
@@ -91,4 +91,25 @@ fault-stop (u ∷ us) ts n e = go (fault-stop us ts n) (which (u .fails))
   where
     go : (fault us ≡ some n → fault (us ++ ts) ≡ some n) → (u .fails ≡ true) ⊎ (u .fails ≡ false) → fault (u ∷ us ++ ts) ≡ some n
     go ih (inl f) = rw f (rw f at e)
+    go ih (inr f) = rw f (ih (rw f at e))
+
+-- ---- the number, as the C interface has it
+
+pub code-some : (o : Option ℕ) (n : ℕ) → n ≡ code o → (n ≡ 0 → ⊥) → o ≡ some n
+unfolding code
+code-some none n e h = absurd (h e)
+code-some (some m) n e h = ap some (sym e)
+
+-- no test has the number 0
+abbrev pub Numbered : List Test → Type 0
+Numbered [] = Unit {0}
+Numbered (t ∷ ts) = (t .number ≡ 0 → ⊥) × Numbered ts
+
+pub code-none : (ts : List Test) → Numbered ts → 0 ≡ code (fault ts) → fault ts ≡ none
+unfolding fault code
+code-none [] h e = refl
+code-none (t ∷ ts) h e = go (code-none ts (h .1)) (which (t .fails))
+  where
+    go : (0 ≡ code (fault ts) → fault ts ≡ none) → (t .fails ≡ true) ⊎ (t .fails ≡ false) → fault (t ∷ ts) ≡ none
+    go ih (inl f) = absurd (h .0 (sym (rw f at e)))
     go ih (inr f) = rw f (ih (rw f at e))

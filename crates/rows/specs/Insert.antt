@@ -17,7 +17,7 @@ use Rattle.grid.specs.Containers.{outside, ratios, exceed, keyOf}
 use Rattle.grid_search.specs.declared.GridSearch.{GridSearch}
 use Rattle.grid_search.specs.Sheet.{toleranceOf}
 use Rattle.table.specs.declared.Row.{Row}
-use Rattle.table.specs.Rows.{putRow}
+use Rattle.table.specs.Rows.{putIn}
 use Rattle.rows.specs.Library.{Library, table, write, space, roomy, libraryTests, Turn}
 use Rattle.rows.specs.declared.Inserted.{Inserted}
 use Rattle.rows.specs.declared.Inserted.the-variants.{Stored, Refused}
@@ -62,19 +62,10 @@ targets s x = map (containerOf s) (points s x)
 
 -- ---- the rows after an insertion
 
--- the mark's row in the container of a key
-abbrev pub rowIn : ℕ → List Float → ℕ → Row
-rowIn i x k = record { key = record { 0 = k }; id = record { 0 = i }; at = positionOf x }
-
--- the mark's row in each of the containers: an existing row of that container and id takes the new coordinates
-unfoldable pub putIn : ℕ → List Float → List ℕ → List Row → List Row
-unfolding putRow
-putIn i x [] rows = rows
-putIn i x (k ∷ ks) rows = putIn i x ks (putRow (rowIn i x k) rows)
-
+-- the mark's row in each of its containers: an existing row of that container and id takes the new coordinates
 unfoldable pub rowsWith : GridSearch → ℕ → List Float → List Row → List Row
 unfolding putIn targets
-rowsWith s i x rows = putIn i x (targets s x) rows
+rowsWith s i x rows = putIn i (positionOf x) (targets s x) rows
 
 -- ---- what turns an insertion away: 24, 13, 2, 3, 11, 17, 12
 

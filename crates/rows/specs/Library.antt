@@ -27,6 +27,9 @@ pub record Library : Type 0 where
   pub zs : List Float
   pub used : ℕ
 
+abbrev pub library : List ℕ → List ℕ → List Float → List Float → List Float → ℕ → Library
+library keys ids xs ys zs used = record { keys = keys; ids = ids; xs = xs; ys = ys; zs = zs; used = used }
+
 -- ---- the layout: the only three definitions that look at the five lists
 
 -- the rows in use

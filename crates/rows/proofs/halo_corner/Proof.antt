@@ -1,0 +1,25 @@
+-- `halo_corner` meets its contract: the two and the three coordinates are those of the definition, by computation.
+-- Assumes nothing.
+use Rattle.rows.proofs.Targets.{corner-is}
+use borrow.Author.Needs.{needs}
+use Rattle.rows.proofs.halo_corner.Statement.{statement}
+use Rattle.rows.proofs.halo_corner.Tie as tie
+
+shifted-requires : tie.Need-shifted-requires
+shifted-requires c κs = search needs
+
+shifted-requires-2 : tie.Need-shifted-requires-2
+shifted-requires-2 c κs = search needs
+
+shifted-requires-3 : tie.Need-shifted-requires-3
+shifted-requires-3 c κs = search needs
+
+returns : tie.Need-returns
+returns c =
+    let start = c .before .before .before in
+    let after-shifted = c .before .before in
+    corner-is (start .args .tolerance) (start .args .x) (start .args .c) (after-shifted .shifted .result) (c .before .shifted2 .result) (c .shifted3 .result) (after-shifted .shifted .ensures) (c .before .shifted2 .ensures) (c .shifted3 .ensures)
+
+pub halo-corner-spec : {M : Type 1} → statement M
+halo-corner-spec =
+    tie.close (tie.spec shifted-requires shifted-requires-2 shifted-requires-3 returns)
