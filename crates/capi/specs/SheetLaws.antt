@@ -1,17 +1,17 @@
 -- Laws of a sheet in two lists: what is written is read back as the same sheet (`read-back`), and lists that are read as a good sheet are those that are written for it (`lists-are`).
 -- Assumes nothing.
-use Prim.Native.Nat.{ℕ, zero, suc, _≤_}
+use Prim.Native.Nat.{ℕ, zero, suc}
 use native.Mathlib.Omega.{arith}
-use mathlib.Core.Path.{_≡_, refl, sym, ap, ap₂, _∙_}
+use mathlib.Core.Path.{_≡_, refl, sym, _∙_}
 use mathlib.Core.Logic.{_⊎_, inl, inr}
-use mathlib.Core.Bool.{Bool, true, false, cond, _&&_, _||_, false≢true}
-use mathlib.Core.List.{List, [], _∷_}
+use mathlib.Core.Bool.{Bool, true, false, _&&_, _||_}
+use mathlib.Core.List.{List}
 use lib.Dec.{eqb}
-use lib.ListN.{length, getD, take}
+use lib.ListN.{length, getD}
 use lib.Seq.{take-all}
 use lib.Ieee.{Float, nan, fits}
-use borrow.Author.Tests.{eqb-true, eqb-false}
-use Rattle.basics.specs.Bools.{by-test, both, and-both, or-either, clash}
+use borrow.Author.Tests.{eqb-true}
+use Rattle.basics.specs.Bools.{by-test, and-both, or-either, clash}
 use Rattle.basics.specs.Lists.{tab}
 use Rattle.basics.specs.Laws.{tab-take}
 use Rattle.basics.specs.Refusals.{refused, success}

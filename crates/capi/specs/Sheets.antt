@@ -1,18 +1,17 @@
 -- A sheet as the C interface has it, in a list of 8 numbers and a list of 17 floats: what `gemlab_grid_search_new` writes, and how a sheet that is handed in is read.
 -- Assumes nothing.
 use Prim.Native.Nat.{ℕ, zero, suc, _+_}
-use mathlib.Core.Bool.{Bool, true, false, cond, _&&_, _||_}
+use mathlib.Core.Bool.{Bool, cond, _&&_, _||_}
 use mathlib.Core.Path.{_≡_}
 use mathlib.Core.List.{List, [], _∷_}
 use lib.Dec.{eqb}
 use lib.ListN.{length, getD}
 use lib.Ieee.{Float, nan}
-use Rattle.basics.specs.Refusals.{Answer, refused, success, through}
+use Rattle.basics.specs.Refusals.{Answer, refused, through}
 use Rattle.floats.specs.Rounded.{zeroF}
 use Rattle.floats.specs.Tests.{sameBits}
 use Rattle.geometry.specs.declared.Position.{Position}
 use Rattle.geometry.specs.Position.{dimension}
-use Rattle.grid.specs.declared.Divisions.{Divisions}
 use Rattle.grid_search.specs.declared.GivenU64.{GivenU64}
 use Rattle.grid_search.specs.declared.GivenU64.the-variants as number
 use Rattle.grid_search.specs.declared.GivenF64.{GivenF64}

@@ -1,9 +1,7 @@
 // The sheet, in a list of 8 numbers and a list of 17 floats.
 ghost use Prim.Native.Nat.{_+_, _<_};
 ghost use mathlib.Core.Path.{_≡_};
-ghost use mathlib.Core.Bool.{true};
-ghost use lib.ListN.{length, getD};
-ghost use Rattle.floats.specs.Rounded.{zeroF};
+ghost use lib.ListN.{length};
 ghost use Rattle.capi.specs.Sheets.{givenNumber, givenFloat, numberFlag, numberEntry, floatFlag, floatEntry, numbersOf, floatsOf};
 ghost use Rattle.capi.specs.Sheets.{newInC, ToldSheet, numberRead, floatRead, readable as readableOf, positionAt, readSheet, noSheet, sheetOf};
 use geometry::Position;

@@ -1,6 +1,6 @@
 -- Laws of positions and the lists of their coordinates, over any number of axes.
 -- Assumes nothing.
-use Prim.Native.Nat.{ℕ, zero, suc}
+use Prim.Native.Nat.{ℕ, zero, suc, _-_}
 use native.Mathlib.Omega.{arith}
 use mathlib.Core.Path.{_≡_, refl, sym, ap, _∙_}
 use mathlib.Core.Logic.{_⊎_, inl, inr}
@@ -33,6 +33,22 @@ three n h k = go (two-or-three n h)
     go : (n ≡ 2) ⊎ (n ≡ 3) → n ≡ 3
     go (inl e) = absurd (k e)
     go (inr e) = e
+
+-- there are two axes at least
+pub two-at-least : (n : ℕ) → dimension n ≡ true → n ≡ suc (suc (n - 2))
+two-at-least n h = go (two-or-three n h)
+  where
+    go : (n ≡ 2) ⊎ (n ≡ 3) → n ≡ suc (suc (n - 2))
+    go (inl e) = omega arith
+    go (inr e) = omega arith
+
+-- as many coordinates as axes
+pub coords-length : (n : ℕ) (p : Position) → dimension n ≡ true → length (coords n p) ≡ n
+coords-length n p h = go (two-or-three n h)
+  where
+    go : (n ≡ 2) ⊎ (n ≡ 3) → length (coords n p) ≡ n
+    go (inl e) = rw e
+    go (inr e) = rw e
 
 -- the third axis by its number
 pub axis-last : (i : ℕ) (p : Position) → (i ≡ 0 → ⊥) → (i ≡ 1 → ⊥) → p .z ≡ axisOf i p

@@ -1,17 +1,16 @@
 -- The Rust's formulas for a key and for its indices, which have a term or a quotient for each axis, are the recursive ones; and where a position falls, by its ratios. Assumes nothing.
 use Prim.Native.Nat.{ℕ, _+_, _*_, _/_, _%_, _≤_, _<_}
-use native.Mathlib.Nat.{mul-zero, add-zero, mul-one, mul-comm, mul-assoc, mul-add, mul-pos, mul-le-mul-left, lt-of-lt-of-le, mul-suc, mod-lt, mod-eq-of-lt, div-eq-of-lt, div-div-eq-div-mul, div-lt-iff-lt-mul, mod-add-div, add-mul-mod-self-left, add-mul-div-left, zero-add}
+use native.Mathlib.Nat.{mul-zero, add-zero, mul-one, mul-comm, mul-assoc, mul-add, mul-pos, mod-lt, mod-eq-of-lt, div-eq-of-lt, div-div-eq-div-mul, div-lt-iff-lt-mul, mod-add-div, add-mul-mod-self-left, add-mul-div-left, zero-add}
 use native.Mathlib.Omega.{arith}
-use mathlib.Core.Path.{_≡_, refl, sym, ap, _∙_, subst}
+use mathlib.Core.Path.{_≡_, sym, ap, _∙_, subst}
 use mathlib.Core.Bool.{true, false}
 use mathlib.Core.List.{List, [], _∷_}
 use lib.Dec.{ltb}
 use lib.Ieee.{Float}
 use borrow.Author.Tests.{lt-ltb, le-ltb}
 use Rattle.basics.specs.Lists.{zipWith}
-use Rattle.grid.specs.declared.Located.{Located}
 use Rattle.grid.specs.declared.Located.the-variants.{Key, Exceeds}
-use Rattle.grid.specs.Containers.{ratios, exceed, inner, combine, keyOf, located, containers, pivots}
+use Rattle.grid.specs.Containers.{ratios, exceed, inner, combine, keyOf, located, containers}
 use Rattle.grid.specs.Keys.{digit}
 
 -- ---- keys

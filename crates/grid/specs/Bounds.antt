@@ -1,14 +1,14 @@
 -- What the test of divisions says of a record of them, and that products of divisions are small. Assumes nothing.
-use Prim.Native.Nat.{ℕ, zero, suc, _+_, _-_, _*_, _≤_, _<_}
-use native.Mathlib.Nat.{mul-le-mul, mul-pos}
+use Prim.Native.Nat.{ℕ, _-_, _*_, _≤_, _<_}
+use native.Mathlib.Nat.{mul-le-mul}
 use native.Mathlib.Omega.{arith}
 use mathlib.Core.Path.{_≡_}
 use mathlib.Core.Logic.{_⊎_, inl, inr}
-use mathlib.Core.Bool.{Bool, true, _&&_}
+use mathlib.Core.Bool.{true}
 use mathlib.Core.List.{List, [], _∷_}
 use lib.Dec.{leb}
 use borrow.Author.Tests.{leb-true}
-use Rattle.basics.specs.Bools.{and-left, and-right, and-both}
+use Rattle.basics.specs.Bools.{and-left, and-right}
 use Rattle.basics.specs.Lists.{all}
 use Rattle.geometry.specs.Position.{dimension}
 use Rattle.geometry.specs.Axes.{two-or-three}
@@ -17,14 +17,6 @@ use Rattle.grid.specs.declared.Pivot.{Pivot}
 use Rattle.grid.specs.Divisions.{counts, division}
 use Rattle.grid.specs.Containers.{indices}
 use Rattle.grid.specs.Keys.{Below}
-
--- there are two axes at least
-pub two-at-least : (n : ℕ) → dimension n ≡ true → n ≡ suc (suc (n - 2))
-two-at-least n h = go (two-or-three n h)
-  where
-    go : (n ≡ 2) ⊎ (n ≡ 3) → n ≡ suc (suc (n - 2))
-    go (inl e) = omega arith
-    go (inr e) = omega arith
 
 -- from 1 to 1,024
 pub record InRange (n : ℕ) : Type 0 where

@@ -1,17 +1,17 @@
 -- Laws of keys, over any number of axes: a key and its indices give each other back, and the key of a position is below the number of containers.
 -- Assumes nothing.
 use Prim.Native.Nat.{ℕ, zero, suc, _+_, _-_, _*_, _/_, _%_, _≤_, _<_}
-use native.Mathlib.Nat.{le-trans, lt-of-lt-of-le, lt-irrefl, zero-mul, mul-comm, mul-le-mul-left, mod-lt, mod-eq-of-lt, div-eq-of-lt, mod-add-div, add-mul-mod-self-left, add-mul-div-left, div-lt-iff-lt-mul, mul-suc, zero-add}
+use native.Mathlib.Nat.{lt-of-lt-of-le, zero-mul, mul-comm, mul-le-mul-left, mod-lt, mod-eq-of-lt, div-eq-of-lt, mod-add-div, add-mul-mod-self-left, add-mul-div-left, div-lt-iff-lt-mul, mul-suc, zero-add}
 use native.Mathlib.Omega.{arith}
-use mathlib.Core.Path.{_≡_, refl, sym, ap, _∙_, subst}
+use mathlib.Core.Path.{_≡_, refl, ap, _∙_, subst}
 use mathlib.Core.Logic.{_⊎_, inl, inr}
-use mathlib.Core.Bool.{Bool, true, false, cond, _&&_, _||_}
+use mathlib.Core.Bool.{true, false, cond}
 use mathlib.Core.List.{List, [], _∷_}
 use lib.Dec.{ltb, leb, eqb}
 use lib.ListN.{length}
 use lib.Ieee.{Float}
 use borrow.Author.Tests.{ltb-false, leb-true, eqb-true, eqb-false}
-use Rattle.basics.specs.Bools.{which, and-left, and-right, and-both, or-left, or-right}
+use Rattle.basics.specs.Bools.{which, and-left, and-both, or-left, or-right}
 use Rattle.basics.specs.Lists.{all, zipWith}
 use Rattle.grid.specs.Divisions.{division}
 use Rattle.grid.specs.Containers.{ratios, exceed, inner, combine, keyOf, containers, pivots}

@@ -1,6 +1,6 @@
 // Modules 3 and 4: how a box is divided into containers, which container a position falls into, and a container's
 // centre. From gemlab's `util/num_divisions.rs`, `util/calc_container_key.rs` and the methods of `GridSearch`.
-ghost use Prim.Native.Nat.{ℕ, _+_, _*_, _^_, _≤_, _<_};
+ghost use Prim.Native.Nat.{_^_, _≤_, _<_};
 ghost use mathlib.Core.Path.{_≡_};
 ghost use mathlib.Core.Bool.{true, _||_};
 ghost use lib.Ieee.{lt};

@@ -2,8 +2,8 @@
 use Prim.Native.Nat.{ℕ}
 use mathlib.Core.Path.{_≡_, sym, _∙_, ap}
 use mathlib.Core.Logic.{_⊎_, inl, inr}
-use mathlib.Core.Bool.{Bool, true, _&&_, _||_, and-true}
-use mathlib.Core.List.{List, [], _∷_, map}
+use mathlib.Core.Bool.{true, _&&_, _||_, and-true}
+use mathlib.Core.List.{[], _∷_, map}
 use lib.Dec.{eqb}
 use lib.Ieee.{Float, lt}
 use Rattle.basics.specs.Laws.{map-take}

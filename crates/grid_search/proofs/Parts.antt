@@ -1,16 +1,14 @@
 -- The sheet from its parts, each made from positions, is the one that the lists of coordinates give. Assumes nothing.
 use Prim.Native.Nat.{ℕ, _≤_}
-use mathlib.Core.Path.{_≡_, refl, sym, ap, _∙_}
-use mathlib.Core.Logic.{_⊎_, inl, inr}
+use mathlib.Core.Path.{_≡_, sym, _∙_}
 use mathlib.Core.Bool.{true}
-use mathlib.Core.List.{List}
 use lib.ListN.{length}
 use lib.Ieee.{Float}
 use Rattle.basics.specs.Lists.{all}
 use Rattle.floats.specs.Rounded.{_⊗_, _⊘_, pow2}
 use Rattle.geometry.specs.declared.Position.{Position}
 use Rattle.geometry.specs.Position.{coords, positionOf, dimension}
-use Rattle.geometry.specs.Axes.{two-or-three, coords-of}
+use Rattle.geometry.specs.Axes.{coords-length, coords-of}
 use Rattle.grid.specs.declared.Divisions.{Divisions}
 use Rattle.grid.specs.Divisions.{counts, divisionsOf, division, numDivisions}
 use Rattle.grid.specs.Shares.{divisions-length, counts-of}
@@ -19,13 +17,6 @@ use Rattle.grid_search.specs.declared.GivenF64.{GivenF64}
 use Rattle.grid_search.specs.declared.GridSearch.{GridSearch}
 use Rattle.grid_search.specs.Sheet.{numberOf, toleranceOf, borderOf, lowered, raised, sideOf, coveredOf, diagonal, above, build}
 use Rattle.grid_search.specs.Laws.{divisions-good, lowered-length, raised-length}
-
-pub coords-length : (n : ℕ) (p : Position) → dimension n ≡ true → length (coords n p) ≡ n
-coords-length n p h = go (two-or-three n h)
-  where
-    go : (n ≡ 2) ⊎ (n ≡ 3) → length (coords n p) ≡ n
-    go (inl e) = rw e
-    go (inr e) = rw e
 
 module _ (n : ℕ) (low high : Position) (d : dimension n ≡ true) where
   pub both-lengths : length (coords n high) ≡ length (coords n low)

@@ -5,9 +5,9 @@ use mathlib.Core.Path.{_≡_, refl}
 use mathlib.Core.Bool.{Bool, true, false}
 use mathlib.Core.List.{List, [], _∷_, map}
 use mathlib.Core.Option.{Option, none, some}
-use lib.IntN.{pos, negsuc}
+use lib.IntN.{negsuc}
 use lib.Ieee.{Float, fin, add, sub, mul, div, ofInt, toUnsigned}
-use Rattle.basics.specs.Refusals.{Answer, success, fault}
+use Rattle.basics.specs.Refusals.{success, fault}
 use Rattle.floats.specs.Tests.{within}
 use Rattle.floats.specs.Rounded.{ofNat, zeroF, pow2, pow2⁻}
 use Rattle.geometry.specs.Position.{coords}
@@ -16,7 +16,6 @@ use Rattle.grid.specs.declared.Located.the-variants.{Key}
 use Rattle.grid.specs.Divisions.{counts}
 use Rattle.grid.specs.Containers.{located, outside}
 use Rattle.grid_search.specs.declared.GivenU64.the-variants as number
-use Rattle.grid_search.specs.declared.GivenF64.{GivenF64}
 use Rattle.grid_search.specs.declared.GivenF64.the-variants as float
 use Rattle.grid_search.specs.declared.GridSearch.{GridSearch}
 use Rattle.grid_search.specs.Sheet.{build, sheetTests, newSheet, sheetOk}

@@ -1,20 +1,20 @@
 -- What a good sheet is known by. `good` gives the facts that the calls above need, and `sheet-is` that a good sheet is the very one that its settings give.
 -- Assumes nothing.
-use Prim.Native.Nat.{ℕ, zero, suc, _+_, _*_, _^_, _≤_, _<_}
+use Prim.Native.Nat.{ℕ, zero, suc, _≤_}
 use native.Mathlib.Omega.{arith}
 use mathlib.Core.Path.{_≡_, refl, sym, ap, _∙_, subst}
-use mathlib.Core.Logic.{_⊎_, inl, inr}
-use mathlib.Core.Bool.{Bool, true, false, not, cond, _&&_, _||_, true≢false, false≢true}
+use mathlib.Core.Logic.{inl, inr}
+use mathlib.Core.Bool.{Bool, true, false, _||_, false≢true}
 use mathlib.Core.List.{List, [], _∷_, map}
 use mathlib.Core.Option.{Option, none, some}
-use lib.Dec.{T, leb, ltb, eqb, lit≤}
+use lib.Dec.{eqb}
 use lib.ListN.{length, getD, take}
 use lib.Ieee.{Float, nan, inf, fin, binary64, fits, lt, le, eq}
 use lib.Ieee.Fits.{add-fits, sub-fits, mul-fits, div-fits}
 use borrow.Author.Tests.{eq-eqb, eqb-true, eqb-false, ltb-false, not-true, not-false}
 use Rattle.basics.specs.Bools.{by-test, both, and-left, and-right, and-both, or-true, or-left, clash}
 use Rattle.basics.specs.Lists.{all, zipWith}
-use Rattle.basics.specs.Refusals.{Test, refuse, fault, Answer, refused, success, answer, Passed, unrefused}
+use Rattle.basics.specs.Refusals.{fault, Answer, success, answer, Passed, unrefused}
 use Rattle.floats.specs.Rounded.{_⊖_, _⊗_, _⊘_, ofNat, zeroF, pow2}
 use Rattle.floats.specs.Tests.{finite, sameBits, maxOf}
 use Rattle.floats.specs.Laws.{Binary64}
@@ -26,7 +26,7 @@ use Rattle.geometry.specs.declared.Position.{Position}
 use Rattle.geometry.specs.Position.{coords, positionOf, dimension, coordinate}
 use Rattle.geometry.specs.Axes.{all-coords, coords-of}
 use Rattle.grid.specs.declared.Divisions.{Divisions}
-use Rattle.grid.specs.Divisions.{counts, divisionsOf, division, numDivisions}
+use Rattle.grid.specs.Divisions.{counts, division, numDivisions}
 use Rattle.grid.specs.Shares.{divisions-length, counts-of}
 use Rattle.grid_search.specs.declared.GivenU64.{GivenU64}
 use Rattle.grid_search.specs.declared.GivenF64.{GivenF64}

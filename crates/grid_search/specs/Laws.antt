@@ -1,28 +1,25 @@
 -- Laws of the sheet: the divisions of corners in order are from 1 to 1,024, and each way that the tests can go. Assumes nothing.
-use Prim.Native.Nat.{ℕ, zero, suc, _^_, _≤_, _<_}
+use Prim.Native.Nat.{ℕ, _≤_}
 use native.Mathlib.Omega.{arith}
-use mathlib.Core.Path.{_≡_, refl, sym, ap, _∙_}
-use mathlib.Core.Logic.{_⊎_, inl, inr}
-use mathlib.Core.Bool.{Bool, true, false, not, cond, _&&_, true≢false, false≢true}
-use mathlib.Core.List.{List, [], _∷_, map}
-use mathlib.Core.Option.{Option, none, some}
+use mathlib.Core.Path.{_≡_, refl}
+use mathlib.Core.Bool.{true, false}
+use mathlib.Core.List.{List, [], _∷_}
 use lib.Dec.{leb, ltb, eqb}
 use lib.ListN.{length, length-map}
 use lib.Ieee.{Float, lt, le}
-use borrow.Author.Tests.{leb-true, le-leb, eq-eqb}
+use borrow.Author.Tests.{leb-true, le-leb}
 use Rattle.basics.specs.Bools.{by-test, both, and-left, and-right, and-both}
-use Rattle.basics.specs.Lists.{all, zipWith}
-use Rattle.basics.specs.Refusals.{Test, refuse, fault, Answer, refused, success, answer}
+use Rattle.basics.specs.Lists.{all}
+use Rattle.basics.specs.Refusals.{refused, success}
 use Rattle.floats.specs.Rounded.{_⊖_, _⊗_, zeroF, pow2}
 use Rattle.floats.specs.Upto.{unsigned, sub-unsigned}
-use Rattle.geometry.specs.declared.Position.{Position}
-use Rattle.geometry.specs.Position.{coords, positionOf, dimension}
+use Rattle.geometry.specs.Position.{dimension}
 use Rattle.geometry.specs.Distances.{from}
 use Rattle.grid.specs.Divisions.{division, numDivisions}
 use Rattle.grid.specs.Shares.{upToNumber, divisions-range}
 use Rattle.grid_search.specs.declared.GivenU64.{GivenU64}
 use Rattle.grid_search.specs.declared.GivenF64.{GivenF64}
-use Rattle.grid_search.specs.Sheet.{numberOf, toleranceOf, borderOf, lowered, raised, above, outOfLimits, build, sheetTests, newSheet}
+use Rattle.grid_search.specs.Sheet.{numberOf, toleranceOf, borderOf, lowered, raised, above, outOfLimits, build, newSheet}
 
 -- ---- divisions
 pub ascending : (lo hi : List Float) → above lo hi ≡ true → all unsigned (from lo hi) ≡ true

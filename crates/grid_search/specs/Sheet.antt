@@ -14,7 +14,7 @@ use Rattle.floats.specs.Sqrt.{sqrtOf}
 use Rattle.geometry.specs.declared.Position.{Position}
 use Rattle.geometry.specs.Position.{coords, positionOf, dimension, coordinate}
 use Rattle.grid.specs.declared.Divisions.{Divisions}
-use Rattle.grid.specs.Divisions.{counts, divisionsOf, numDivisions}
+use Rattle.grid.specs.Divisions.{divisionsOf, numDivisions}
 use Rattle.grid_search.specs.declared.GivenU64.{GivenU64}
 use Rattle.grid_search.specs.declared.GivenU64.the-variants as number
 use Rattle.grid_search.specs.declared.GivenF64.{GivenF64}

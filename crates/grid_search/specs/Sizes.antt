@@ -1,21 +1,19 @@
 -- How large the floats of a sheet are whose settings passed the tests. So all of them are finite, and the side is above zero. Assumes nothing.
-use Prim.Native.Nat.{ℕ, zero, suc, _+_, _*_, _^_, _≤_, _<_}
+use Prim.Native.Nat.{ℕ, _+_, _^_, _≤_}
 use native.Mathlib.Omega.{arith}
-use native.Mathlib.Nat.{le-trans}
-use mathlib.Core.Path.{_≡_, refl, sym, ap, _∙_, subst}
-use mathlib.Core.Logic.{_⊎_, inl, inr}
-use mathlib.Core.Bool.{Bool, true, false, not, cond, _&&_, _||_, true≢false, false≢true}
+use mathlib.Core.Path.{_≡_, refl, ap, _∙_}
+use mathlib.Core.Logic.{inl, inr}
+use mathlib.Core.Bool.{true, false, not, _&&_, false≢true}
 use mathlib.Core.List.{List, [], _∷_, map}
-use lib.Dec.{T, leb, ltb, lit≤}
-use lib.ListN.{length}
-use lib.Ieee.{Float, nan, inf, fin, lt, le, eq, isNan, ofInt}
+use lib.Dec.{lit≤}
+use lib.Ieee.{Float, nan, inf, fin, lt, le, isNan, ofInt}
 use borrow.Author.Tests.{not-false}
 use Rattle.basics.specs.Bools.{by-test, both, and-left, and-right, and-both, or-left, or-right, clash}
 use Rattle.basics.specs.Lists.{all, zipWith}
-use Rattle.floats.specs.Rounded.{_⊕_, _⊖_, _⊗_, _⊘_, ofNat, zeroF, pow2, pow2⁻}
+use Rattle.floats.specs.Rounded.{_⊕_, _⊖_, _⊗_, _⊘_, ofNat, zeroF, pow2}
 use Rattle.floats.specs.Tests.{finite, maxOf}
 use Rattle.floats.specs.Order.{lt-is-not-le, le-join}
-use Rattle.floats.specs.Upto.{Upto, upto-finite, upto-more, within-upto, between-upto, add-upto, sub-upto, mul-upto, div-upto, nat-upto, nat-from1, max-upto, unsigned, above-unsigned, mul-unsigned, unsigned-above}
+use Rattle.floats.specs.Upto.{Upto, upto-finite, upto-more, within-upto, add-upto, sub-upto, mul-upto, div-upto, nat-upto, nat-from1, max-upto, above-unsigned, mul-unsigned, unsigned-above}
 use Rattle.geometry.specs.Position.{dimension, coordinate}
 use Rattle.geometry.specs.Axes.{two-or-three}
 use Rattle.grid.specs.Divisions.{division}

@@ -3,7 +3,7 @@
 ghost use Prim.Native.Nat.{_≤_};
 ghost use mathlib.Core.Path.{_≡_};
 ghost use mathlib.Core.Bool.{true};
-ghost use Rattle.basics.specs.Lists.{all, zipWith};
+ghost use Rattle.basics.specs.Lists.{all};
 ghost use Rattle.floats.specs.Rounded.{_⊕_, _⊖_, _⊗_, _⊘_, ofNat};
 ghost use Rattle.geometry.specs.Position.{coords, positionOf, dimension};
 ghost use Rattle.grid.specs.Divisions.{counts, division};

@@ -5,10 +5,10 @@ use borrow.Author.Needs.{needs}
 use borrow.Author.Tests.{le-ltb}
 use Rattle.basics.specs.Lists.{zipWith}
 use Rattle.geometry.specs.Position.{coords}
-use Rattle.geometry.specs.Axes.{three}
+use Rattle.geometry.specs.Axes.{three, two-at-least}
 use Rattle.grid.specs.Divisions.{counts}
 use Rattle.grid.specs.Containers.{ratios, exceed}
-use Rattle.grid.specs.Bounds.{Bounds, bounds, two-at-least}
+use Rattle.grid.specs.Bounds.{Bounds, bounds}
 use Rattle.grid.proofs.Flat.{exceeds, falls, over, under}
 use Rattle.grid.proofs.calc_container_key.Statement.{statement}
 use Rattle.grid.proofs.calc_container_key.Tie as tie

@@ -1,7 +1,6 @@
 use mathlib.Core.Bool.{or-false}
-use mathlib.Core.Path.{_∙_, sym, ap}
-use Rattle.geometry.specs.Axes.{three}
-use Rattle.grid.specs.Bounds.{two-at-least}
+use mathlib.Core.Path.{_∙_, sym}
+use Rattle.geometry.specs.Axes.{three, two-at-least}
 use Rattle.grid.specs.Containers.{outside}
 use borrow.Author.Needs.{needs}
 use Rattle.grid.proofs.is_outside.Statement.{statement}

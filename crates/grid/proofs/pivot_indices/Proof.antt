@@ -1,7 +1,5 @@
 -- `grid::pivot_indices` meets its contract. Assumes nothing.
-use Prim.Native.Nat.{_<_}
-use mathlib.Core.Path.{_≡_, sym}
-use mathlib.Core.Logic.{_⊎_, inl, inr}
+use mathlib.Core.Logic.{inl, inr}
 use native.Mathlib.Nat.{mul-pos}
 use native.Mathlib.Omega.{arith}
 use Rattle.geometry.specs.Axes.{two-or-three}

@@ -1,8 +1,8 @@
 -- `grid_search::is_sheet` meets its contract. Assumes nothing.
-use mathlib.Core.Path.{_≡_, sym, _∙_}
+use mathlib.Core.Path.{sym, _∙_}
 use borrow.Author.Needs.{needs}
 use borrow.Author.Tests.{not-true, not-false}
-use Rattle.grid_search.specs.Sheet.{agrees, sheetOk}
+use Rattle.grid_search.specs.Sheet.{sheetOk}
 use Rattle.grid_search.specs.Good.{no-axes}
 use Rattle.grid_search.proofs.is_sheet.Statement.{statement}
 use Rattle.grid_search.proofs.is_sheet.Tie as tie

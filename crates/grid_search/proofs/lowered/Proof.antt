@@ -3,7 +3,6 @@ use lib.Ieee.{Float, ofBits}
 use Rattle.floats.specs.Rounded.{_⊖_}
 use Rattle.grid_search.specs.Sheet.{lowered}
 use Rattle.grid_search.proofs.Corners.{moved}
-use mathlib.Core.Path.{_∙_, ap}
 use lib.Ieee.{ofBits}
 use borrow.Author.Needs.{needs}
 use Rattle.grid_search.proofs.lowered.Statement.{statement}

@@ -1,7 +1,6 @@
 -- `grid_search::side` meets its contract. Assumes nothing.
-use mathlib.Core.Path.{_≡_, _∙_, ap}
+use mathlib.Core.Path.{_≡_}
 use borrow.Author.Needs.{needs}
-use Rattle.floats.specs.Tests.{maxOf}
 use Rattle.geometry.specs.Axes.{three}
 use Rattle.grid.specs.Bounds.{Bounds, bounds}
 use Rattle.grid_search.specs.Sheet.{sideOf}

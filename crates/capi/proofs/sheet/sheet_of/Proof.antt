@@ -1,6 +1,5 @@
 -- `capi::sheet::sheet_of` meets its contract. Assumes nothing.
-use mathlib.Core.Path.{_≡_, sym, _∙_}
-use mathlib.Core.Bool.{_&&_}
+use mathlib.Core.Path.{sym, _∙_}
 use Rattle.capi.specs.Sheets.{sheetOf}
 use Rattle.capi.specs.SheetLaws.{lengths-of}
 use borrow.Author.Needs.{needs}

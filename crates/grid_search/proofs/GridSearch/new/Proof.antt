@@ -3,8 +3,8 @@ use mathlib.Core.Path.{_≡_, refl, sym, _∙_}
 use mathlib.Core.Bool.{true}
 use lib.ListN.{length}
 use borrow.Author.Needs.{needs}
-use borrow.Author.Tests.{not-true, not-false, eq-eqb, ne-eqb}
-use Rattle.geometry.specs.Position.{dimension, coords}
+use borrow.Author.Tests.{not-true, not-false, ne-eqb}
+use Rattle.geometry.specs.Position.{dimension}
 use Rattle.geometry.specs.Axes.{coords-of}
 use Rattle.grid_search.specs.Laws.{refused-1, refused-2}
 use Rattle.grid_search.proofs.GridSearch.new.Statement.{statement}
