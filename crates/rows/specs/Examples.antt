@@ -58,31 +58,22 @@ steps (m ∷ ms) l =
 unfoldable pub filed : List Mark → Library → Library
 unfolding insertion S
 filed [] l = l
-filed (m ∷ ms) l = filed ms (insertion S l (m .id) (m .at) .library)
+filed (m ∷ ms) l = let t = insertion S l (m .id) (m .at) in filed ms (t .library)
 
-pub record Example : Type 0 where
-  pub computed : List Step
-  pub expected : List Step
-
-abbrev gives : List Step → List Step → Example
-gives c e = record { computed = c; expected = e }
-
-pub examples : List Example
-examples =
-    -- id 7 at (2, 1) into empty rows: keys 1, 2, 9, 10; then at (5.5, 2.5): adds key 21; at (2, 1) again: a full library takes a call that adds nothing
-    gives (steps (seven ∷ again ∷ seven ∷ []) (roomFor 5)) (
-    step (success 4) (1 ∷ 2 ∷ 9 ∷ 10 ∷ []) (7 ∷ 7 ∷ 7 ∷ 7 ∷ [])
+-- id 7 at (2, 1) into empty rows: keys 1, 2, 9, 10; then at (5.5, 2.5): adds key 21; at (2, 1) again: a full library takes a call that adds nothing;
+-- with 3 free rows: 12, and nothing is filed; id 8 alone at (3 - 9/4096, 0.5): only key 2; the next float above 8: 11
+as-expected : steps (seven ∷ again ∷ seven ∷ []) (roomFor 5)
+    ∷ steps (seven ∷ []) (roomFor 3)
+    ∷ steps (eight ∷ []) (roomFor 3)
+    ∷ steps (beyond ∷ []) (roomFor 3)
+    ∷ []
+    ≡ (step (success 4) (1 ∷ 2 ∷ 9 ∷ 10 ∷ []) (7 ∷ 7 ∷ 7 ∷ 7 ∷ [])
     ∷ step (success 5) (1 ∷ 2 ∷ 9 ∷ 10 ∷ 21 ∷ []) (7 ∷ 7 ∷ 7 ∷ 7 ∷ 7 ∷ [])
     ∷ step (success 5) (1 ∷ 2 ∷ 9 ∷ 10 ∷ 21 ∷ []) (7 ∷ 7 ∷ 7 ∷ 7 ∷ 7 ∷ [])
     ∷ [])
-    -- with 3 free rows: 12, and nothing is filed
-    ∷ gives (steps (seven ∷ []) (roomFor 3)) (step (refused 12) [] [] ∷ [])
-    -- id 8 alone at (3 - 9/4096, 0.5): only key 2
-    ∷ gives (steps (eight ∷ []) (roomFor 3)) (step (success 1) (2 ∷ []) (8 ∷ []) ∷ [])
-    -- the next float above 8: 11
-    ∷ gives (steps (beyond ∷ []) (roomFor 3)) (step (refused 11) [] [] ∷ [])
+    ∷ (step (refused 12) [] [] ∷ [])
+    ∷ (step (success 1) (2 ∷ []) (8 ∷ []) ∷ [])
+    ∷ (step (refused 11) [] [] ∷ [])
     ∷ []
-
-as-expected : map (λ (x : Example). x .computed) examples ≡ map (λ (x : Example). x .expected) examples
-unfolding examples steps before same add sub mul div ofInt toUnsigned within
+unfolding steps before same add sub mul div ofInt toUnsigned within
 as-expected = refl

@@ -18,23 +18,30 @@ use Rattle.rows.specs.Insert.{containerOf, positionTests}
 use Rattle.search.specs.declared.Found.{Found}
 use Rattle.search.specs.declared.Found.the-variants.{Id, Nothing, Refused}
 
--- a row is near a position: it is in the position's container, and its computed distance is at most tol_dist
+-- a row is in a container and its computed distance from a position is at most tol_dist
+unfoldable pub isNearIn : GridSearch → ℕ → List Float → Row → Bool
+unfolding pointPoint le
+isNearIn s key x r = eqb (keyIn r) key && le (pointPoint (coords (s .ndim) (r .at)) x) (s .«tol_dist»)
+
+-- a row is near a position: so in the position's container
 unfoldable pub isNear : GridSearch → List Float → Row → Bool
-unfolding containerOf pointPoint le
-isNear s x r = eqb (keyIn r) (containerOf s x) && le (pointPoint (coords (s .ndim) (r .at)) x) (s .«tol_dist»)
+unfolding containerOf isNearIn
+isNear s x r = isNearIn s (containerOf s x) x r
 
 unfoldable pub nearRows : GridSearch → List Float → List Row → List Row
 unfolding keep isNear
 nearRows s x rows = keep (isNear s x) rows
 
+-- the lower of an id and another, if there is another
+unfoldable pub lowerOf : ℕ → Option ℕ → Option ℕ
+lowerOf i none = some i
+lowerOf i (some j) = some (min i j)
+
 -- the choice: the lowest id
 unfoldable pub lowest : List Row → Option ℕ
+unfolding lowerOf
 lowest [] = none
-lowest (r ∷ rows) = lower (idIn r) (lowest rows)
-  where
-    lower : ℕ → Option ℕ → Option ℕ
-    lower i none = some i
-    lower i (some j) = some (min i j)
+lowest (r ∷ rows) = lowerOf (idIn r) (lowest rows)
 
 -- 24, 13, 2, 3, 11, 17
 unfoldable pub searchTests : GridSearch → Library → List Float → List Test
