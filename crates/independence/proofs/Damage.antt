@@ -1,0 +1,107 @@
+-- No run damages a library: 24 and 13 go on being passed, and no call is refused with them.
+use Prim.Native.Nat.{ℕ}
+use mathlib.Core.Path.{_≡_, refl, sym, _∙_, ap}
+use mathlib.Core.Bool.{Bool, true, false, not}
+use mathlib.Core.Option.{Option, none, some}
+use mathlib.Core.List.{List, [], _∷_, _++_, append-assoc}
+use lib.Dec.{ltb}
+use lib.ListN.{length}
+use lib.Ieee.{Float}
+use borrow.Author.Tests.{not-true}
+use Rattle.basics.specs.Bools.{by-test, both, and-both}
+use Rattle.basics.specs.Lists.{all}
+use Rattle.basics.specs.Refusals.{Test, refuse, fault, answer, fault-left, fault-right}
+use Rattle.grid_search.specs.declared.GridSearch.{GridSearch}
+use Rattle.rows.specs.Library.{Library, table, space, libraryTests}
+use Rattle.rows.specs.Insert.{positionTests, roomTests}
+use Rattle.search.specs.Search.{searchTests, searchAnswer, lowest, nearRows}
+use Rattle.listing.specs.declared.Filter.{Filter}
+use Rattle.listing.specs.Place.{Asked, placeTests}
+use Rattle.listing.specs.Listing.{idsOn, occupied, onTests, listingTests, listOut, listing}
+use Rattle.rows.proofs.Check.{whole}
+use Rattle.independence.specs.Run.{Change, insert, Call, change, search, list, Reply, step, refusalIn, refusal, run, replies}
+use Rattle.independence.specs.Claims.{blames}
+use Rattle.independence.proofs.Changes.{changeTests, ownTests, changed, step-done, step-refused, changed-space, changed-whole, passed-own, same-library}
+use Rattle.independence.proofs.Runs.{kept}
+
+-- a change that is accepted was made on a library that passes 24 and 13
+pub fit : (s : GridSearch) (l : Library) (c : Change) → fault (changeTests s l c) ≡ none → fault (libraryTests s l) ≡ none
+unfolding changeTests
+fit s l c e = fault-left (libraryTests s l) (ownTests s l c) e
+
+pub space-kept : (s : GridSearch) (calls : List Call) (l : Library) → space (run s l calls) ≡ space l
+space-kept s calls l =
+    kept s (λ (m : Library). space m ≡ space l) (λ m c e z. changed-space s m (whole s m (fit s m c e)) c (passed-own s m c e) ∙ z) calls l refl
+
+pub tests-kept : (s : GridSearch) (calls : List Call) (l : Library) → fault (libraryTests s l) ≡ none → fault (libraryTests s (run s l calls)) ≡ none
+tests-kept s =
+    kept s (λ (m : Library). fault (libraryTests s m) ≡ none)
+    (λ m c e v.
+    let w = whole s m v in
+    let q = passed-own s m c e in
+    ap fault (sym (same-library s m (changed s m c) w (changed-whole s m w c q) (sym (changed-space s m w c q)))) ∙ v)
+
+-- ---- the numbers
+
+-- none of the tests has the number 24 or 13
+clean : List Test → Bool
+clean ts = all (λ (t : Test). not (blames (some (t .number)))) ts
+
+clean-fault : (ts : List Test) → clean ts ≡ true → blames (fault ts) ≡ false
+unfolding clean all fault blames
+clean-fault [] e = refl
+clean-fault (t ∷ ts) e =
+    let d = and-both (not (blames (some (t .number)))) (clean ts) e in
+    by-test (t .fails) (λ f. rw f (not-true (blames (some (t .number))) (d .0))) (λ f. rw f (clean-fault ts (d .1)))
+
+refusal-answer : {A : Type 0} (o : Option ℕ) (a : A) → refusalIn (answer o a) ≡ o
+unfolding refusalIn answer
+refusal-answer none a = refl
+refusal-answer (some n) a = refl
+
+refusal-out : (o : Option ℕ) (ids lent : List ℕ) → refusalIn (listOut o ids lent .answer) ≡ o
+unfolding refusalIn listOut
+refusal-out none ids lent = refl
+refusal-out (some n) ids lent = refl
+
+-- a call's refusal is the first of its tests that fails: those of the library, and then its own
+module _ (s : GridSearch) (l : Library) where
+  refusal-change : (c : Change) (o : Option ℕ) → fault (changeTests s l c) ≡ o → refusal (step s l (change c) .reply) ≡ fault (changeTests s l c)
+  refusal-change c none e = step-done s l c e .1 ∙ sym e
+  refusal-change c (some n) e = step-refused s l c n e .1 ∙ sym e
+
+  refusal-search : (x : List Float) → refusal (step s l (search x) .reply) ≡ fault (libraryTests s l ++ positionTests s x (x ∷ []))
+  unfolding step refusal searchAnswer searchTests
+  refusal-search x = refusal-answer (fault (searchTests s l x)) (lowest (nearRows s x (table l)))
+
+  refusal-list : (p : Asked) (f : Filter) (lent : List ℕ)
+      → refusal (step s l (list p f lent) .reply) ≡ fault (libraryTests s l ++ (placeTests s p f (occupied (table l)) ++ (refuse 14 (ltb (length lent) (length (idsOn s l p f))) ∷ [])))
+  unfolding step refusal listing listingTests onTests
+  refusal-list p f lent = refusal-out (fault (listingTests s l p f (length lent))) (idsOn s l p f) lent ∙ ap fault (append-assoc (libraryTests s l) (placeTests s p f (occupied (table l))) (refuse 14 (ltb (length lent) (length (idsOn s l p f))) ∷ []))
+
+-- a clause for each kind of change
+clean-change : (s : GridSearch) (l : Library) (c : Change) → clean (ownTests s l c) ≡ true
+unfolding clean all ownTests positionTests roomTests blames
+clean-change s l (insert i x) = refl
+
+clean-position : (s : GridSearch) (x : List Float) (looked : List (List Float)) → clean (positionTests s x looked) ≡ true
+unfolding clean all positionTests blames
+clean-position s x looked = refl
+
+clean-place : (s : GridSearch) (p : Asked) (f : Filter) (b t : Bool) → clean (placeTests s p f b ++ (refuse 14 t ∷ [])) ≡ true
+unfolding clean all placeTests blames
+clean-place s p f b t = refl
+
+module _ (s : GridSearch) (l : Library) (v : fault (libraryTests s l) ≡ none) where
+  past : (ts : List Test) → clean ts ≡ true → blames (fault (libraryTests s l ++ ts)) ≡ false
+  past ts e = ap blames (fault-right (libraryTests s l) ts v) ∙ clean-fault ts e
+
+  blameless-step : (c : Call) → blames (refusal (step s l c .reply)) ≡ false
+  blameless-step (change c) = ap blames (refusal-change s l c (fault (changeTests s l c)) refl) ∙ unfold changeTests in past (ownTests s l c) (clean-change s l c)
+  blameless-step (search x) = ap blames (refusal-search s l x) ∙ past (positionTests s x (x ∷ [])) (clean-position s x (x ∷ []))
+  blameless-step (list p f lent) = ap blames (refusal-list s l p f lent) ∙ past (placeTests s p f (occupied (table l)) ++ (refuse 14 (ltb (length lent) (length (idsOn s l p f))) ∷ [])) (clean-place s p f (occupied (table l)) (ltb (length lent) (length (idsOn s l p f))))
+
+pub blameless-run : (s : GridSearch) (calls : List Call) (l : Library) → fault (libraryTests s l) ≡ none → all (λ (r : Reply). not (blames (refusal r))) (replies s l calls) ≡ true
+unfolding run replies all
+blameless-run s [] l v = refl
+blameless-run s (c ∷ calls) l v = both (ap not (blameless-step s l v c)) (blameless-run s calls (step s l c .library) (tests-kept s (c ∷ []) l v))

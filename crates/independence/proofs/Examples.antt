@@ -1,0 +1,128 @@
+-- A run on document 01's sheet S, evaluated: ids 6, 7 and 8, refused calls, and the history of 7 alone in another library.
+use Prim.Native.Nat.{ℕ}
+use mathlib.Core.Path.{_≡_, refl}
+use mathlib.Core.Bool.{Bool, true, false}
+use mathlib.Core.Option.{none, some}
+use mathlib.Core.List.{List, [], _∷_, map}
+use lib.IntN.{pos, negsuc}
+use lib.ListN.{replicate}
+use lib.Ieee.{Float, nan, fin, add, sub, mul, div, ofInt, toUnsigned}
+use Rattle.basics.specs.Refusals.{refused, success}
+use Rattle.floats.specs.Rounded.{_⊖_, zeroF, pow2, pow2⁻}
+use Rattle.floats.specs.Tests.{within}
+use Rattle.grid_search.specs.declared.GivenU64.the-variants as number
+use Rattle.grid_search.specs.declared.GivenF64.the-variants as float
+use Rattle.grid_search.specs.declared.GridSearch.{GridSearch}
+use Rattle.grid_search.specs.Sheet.{build}
+use Rattle.table.specs.Rows.{keyIn, before, same}
+use Rattle.rows.specs.Library.{Library, table}
+use Rattle.listing.specs.declared.Filter.the-variants.{Everything}
+use Rattle.listing.specs.Place.{Asked, line}
+use Rattle.independence.specs.Run.{Change, insert, Call, change, search, list, inserted, found, listed, run, replies}
+use Rattle.independence.specs.Histories.{history}
+use Rattle.independence.specs.Queries.{near, on}
+use Rattle.independence.specs.Claims.{replay}
+
+-- corners (0,0) and (8,4), divisions 8, border 0, tolerance 1/512
+S : GridSearch
+unfolding build
+S = build (zeroF ∷ zeroF ∷ []) (pow2 3 ∷ pow2 2 ∷ []) (number.Given 8) (float.Given (pow2⁻ 9)) (float.Given zeroF)
+
+-- no row in use, and the lists full of one thing or another
+empty : ℕ → ℕ → Float → Library
+empty n k x = record { keys = replicate n k; ids = replicate n k; xs = replicate n x; ys = replicate n x; zs = replicate n x; used = 0 }
+
+-- 7 at (2,1) and at (5.5,2.5); 6 at (2,1); 8 at (3 - 9/4096, 0.5); 7 outside, at (9,1)
+seven : Change
+seven = insert 7 (pow2 1 ∷ pow2 0 ∷ [])
+
+seven-again : Change
+seven-again = insert 7 (fin false 11 (negsuc 0) ∷ fin false 5 (negsuc 0) ∷ [])
+
+six : Change
+six = insert 6 (pow2 1 ∷ pow2 0 ∷ [])
+
+eight : Change
+unfolding sub
+eight = insert 8 ((fin false 3 (pos 0) ⊖ fin false 9 (negsuc 11)) ∷ pow2⁻ 1 ∷ [])
+
+outside : Change
+outside = insert 7 (fin false 9 (pos 0) ∷ pow2 0 ∷ [])
+
+-- a line whose ends are one point, and the line through (2,0) and (2,4)
+pinched : Asked
+pinched = line (pow2 0 ∷ pow2 0 ∷ []) (pow2 0 ∷ pow2 0 ∷ [])
+
+upright : Asked
+upright = line (pow2 1 ∷ zeroF ∷ []) (pow2 1 ∷ pow2 2 ∷ [])
+
+calls : List Call
+unfolding six seven seven-again eight outside pinched upright
+calls =
+    list pinched Everything []
+    ∷ change seven
+    ∷ change eight
+    ∷ list pinched Everything []
+    ∷ change outside
+    ∷ search (pow2 1 ∷ pow2 0 ∷ [])
+    ∷ search (fin false 3 (pos 0) ∷ pow2⁻ 1 ∷ [])
+    ∷ change seven-again
+    ∷ change six
+    ∷ search (pow2 1 ∷ pow2 0 ∷ [])
+    ∷ list upright Everything (0 ∷ 0 ∷ 9 ∷ [])
+    ∷ list upright Everything (0 ∷ [])
+    ∷ []
+
+-- two libraries of one space
+l : Library
+unfolding empty
+l = empty 10 5 zeroF
+
+l′ : Library
+unfolding empty
+l′ = empty 10 900 nan
+
+-- 15 where there are rows and not before; 11 for the position outside; Nothing 1.125 tolerances away; then 6 is the lowest near (2,1); 14 for the short list
+all-replies : replies S l calls
+    ≡ listed (record { answer = success 0; list = [] })
+    ∷ inserted (success 4)
+    ∷ inserted (success 5)
+    ∷ listed (record { answer = refused 15; list = [] })
+    ∷ inserted (refused 11)
+    ∷ found (success (some 7))
+    ∷ found (success none)
+    ∷ inserted (success 6)
+    ∷ inserted (success 10)
+    ∷ found (success (some 6))
+    ∷ listed (record { answer = success 2; list = 6 ∷ 7 ∷ 9 ∷ [] })
+    ∷ listed (record { answer = refused 14; list = 0 ∷ [] })
+    ∷ []
+unfolding replies S l calls add sub mul div ofInt toUnsigned within before same
+all-replies = refl
+
+-- the refused insertion is no part of the history
+history-of-7 : history 7 S l calls ≡ seven ∷ seven-again ∷ []
+unfolding history S l calls add sub mul div ofInt toUnsigned within before same
+history-of-7 = refl
+
+-- the containers in use, and those of 7 alone
+keys : map keyIn (table (run S l calls)) ≡ 1 ∷ 1 ∷ 2 ∷ 2 ∷ 2 ∷ 9 ∷ 9 ∷ 10 ∷ 10 ∷ 21 ∷ []
+unfolding run table S l calls add sub mul div ofInt toUnsigned within before same
+keys = refl
+
+keys-alone : map keyIn (table (run S l′ (replay 7 S l calls))) ≡ 1 ∷ 2 ∷ 9 ∷ 10 ∷ 21 ∷ []
+unfolding run table history S l l′ calls add sub mul div ofInt toUnsigned within before same
+keys-alone = refl
+
+-- 7 is near (2,1) and on the line in both, though search now names 6
+asked : Library → List Bool
+unfolding near on upright
+asked m = near S m (pow2 1 ∷ pow2 0 ∷ []) 7 ∷ on S m upright Everything 7 ∷ near S m (fin false 3 (pos 0) ∷ pow2⁻ 1 ∷ []) 7 ∷ on S m pinched Everything 7 ∷ []
+
+both : asked (run S l calls) ≡ true ∷ true ∷ false ∷ false ∷ []
+unfolding asked run S l calls add sub mul div ofInt toUnsigned within before same
+both = refl
+
+alone : asked (run S l′ (replay 7 S l calls)) ≡ true ∷ true ∷ false ∷ false ∷ []
+unfolding asked run history S l l′ calls add sub mul div ofInt toUnsigned within before same
+alone = refl

@@ -1,0 +1,91 @@
+-- Two libraries, of which the second holds what the first holds of one id, go on so when the first takes any call and the second that id's accepted changes.
+use Prim.Native.Nat.{ℕ}
+use mathlib.Core.Path.{_≡_, refl, sym, _∙_, ap}
+use mathlib.Core.Bool.{true, false}
+use mathlib.Core.Option.{Option, none, some}
+use mathlib.Core.List.{List, [], _∷_, map}
+use lib.Dec.{eqb}
+use Rattle.basics.specs.Bools.{by-test, both}
+use Rattle.basics.specs.Lists.{all}
+use Rattle.basics.specs.Refusals.{fault}
+use Rattle.grid_search.specs.declared.GridSearch.{GridSearch}
+use Rattle.table.specs.Rows.{own}
+use Rattle.rows.specs.Library.{Library, table, space}
+use Rattle.rows.proofs.Check.{Whole}
+use Rattle.independence.specs.Run.{Change, Call, change, search, list, step, isNone, accepted, run, replies}
+use Rattle.independence.specs.Histories.{whose, history, effect}
+use Rattle.independence.proofs.Changes.{changeTests, ownTests, changed, step-done, other-effect, own-effect, changed-table, changed-space, changed-whole, passed-own, accepts-too}
+use Rattle.independence.proofs.Runs.{run-done, replies-done, history-own, history-other, run-kept, history-kept}
+
+-- the second library holds what the first holds of the id
+pub record Related (i : ℕ) (s : GridSearch) (l l′ : Library) : Type 0 where
+  pub one : Whole s l
+  pub two : Whole s l′
+  pub size : space l ≡ space l′
+  pub rows : own i (table l) ≡ table l′
+
+module _ (i : ℕ) (s : GridSearch) where
+  -- ---- one change
+
+  module _ (l l′ : Library) (R : Related i s l l′) (c : Change) (q : fault (changeTests s l c) ≡ none) where
+    p : fault (ownTests s l c) ≡ none
+    p = passed-own s l c q
+
+    one-changes : eqb (whose c) i ≡ false → Related i s (changed s l c) l′
+    one-changes e = record {
+      one = changed-whole s l (R .one) c p;
+      two = R .two;
+      size = changed-space s l (R .one) c p ∙ R .size;
+      rows = rw (changed-table s l c) (other-effect s i c (table l) e ∙ R .rows);
+    }
+
+    too : eqb (whose c) i ≡ true → fault (changeTests s l′ c) ≡ none
+    too e = accepts-too s l l′ (R .one) (R .two) (R .size) i c e (R .rows) q
+
+    both-change : eqb (whose c) i ≡ true → Related i s (changed s l c) (changed s l′ c)
+    both-change e =
+        let p′ = passed-own s l′ c (too e) in
+        record {
+          one = changed-whole s l (R .one) c p;
+          two = changed-whole s l′ (R .two) c p′;
+          size = changed-space s l (R .one) c p ∙ R .size ∙ sym (changed-space s l′ (R .two) c p′);
+          rows = rw (changed-table s l c, changed-table s l′ c) (own-effect s i c (table l) e (R .one .order) ∙ ap (effect s c) (R .rows));
+        }
+
+  -- ---- every list of calls
+
+  pub record Claim (l l′ : Library) (calls : List Call) : Type 0 where
+    pub accepts : all accepted (replies s l′ (map change (history i s l calls))) ≡ true
+    pub related : Related i s (run s l calls) (run s l′ (map change (history i s l calls)))
+
+  module _ (c : Change) (calls : List Call) (l l′ : Library) (R : Related i s l l′) (ih : (m m′ : Library) → Related i s m m′ → Claim m m′ calls) where
+    claim-own : fault (changeTests s l c) ≡ none → eqb (whose c) i ≡ true → Claim l l′ (change c ∷ calls)
+    claim-own e f =
+        let d = ih _ _ (both-change l l′ R c e f) in
+        let e′ = too l l′ R c e f in
+        let h = map change (history i s (changed s l c) calls) in
+        record {
+          accepts = rw (history-own s l c calls e i f, replies-done s l′ c h e′) (unfold all accepted isNone in both (ap isNone (step-done s l′ c e′ .1)) (d .accepts));
+          related = rw (history-own s l c calls e i f, run-done s l c calls e, run-done s l′ c h e′) (d .related);
+        }
+
+    claim-other : fault (changeTests s l c) ≡ none → eqb (whose c) i ≡ false → Claim l l′ (change c ∷ calls)
+    claim-other e f =
+        let d = ih _ _ (one-changes l l′ R c e f) in
+        record { accepts = rw (history-other s l c calls e i f) (d .accepts); related = rw (history-other s l c calls e i f, run-done s l c calls e) (d .related) }
+
+    claim-kept : (n : ℕ) → fault (changeTests s l c) ≡ some n → Claim l l′ (change c ∷ calls)
+    claim-kept n e =
+        let d = ih l l′ R in
+        record { accepts = rw (history-kept s l c calls n e i) (d .accepts); related = rw (history-kept s l c calls n e i, run-kept s l c calls n e) (d .related) }
+
+    claim-change : (o : Option ℕ) → fault (changeTests s l c) ≡ o → Claim l l′ (change c ∷ calls)
+    claim-change none e = by-test (eqb (whose c) i) (claim-own e) (claim-other e)
+    claim-change (some n) e = claim-kept n e
+
+  pub claim : (calls : List Call) (l l′ : Library) → Related i s l l′ → Claim l l′ calls
+  unfolding run history replies step all
+  claim [] l l′ R = record { accepts = refl; related = R }
+  claim (search x ∷ calls) l l′ R = let d = claim calls l l′ R in record { accepts = d .accepts; related = d .related }
+  claim (list p f lent ∷ calls) l l′ R = let d = claim calls l l′ R in record { accepts = d .accepts; related = d .related }
+  claim (change c ∷ calls) l l′ R = claim-change c calls l l′ R (claim calls) (fault (changeTests s l c)) refl

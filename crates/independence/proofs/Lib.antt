@@ -1,0 +1,14 @@
+-- The proof of demand 3. `Theorems` has a proof of each claim of specs/Claims.antt; `Independent` is its heart; `Examples` evaluates a run.
+pub mod Ids
+pub mod Lists
+pub mod Keys
+pub mod Changes
+pub mod Replies
+pub mod Runs
+pub mod Independent
+pub mod Alike
+pub mod Histories
+pub mod Damage
+pub mod Answers
+pub mod Theorems
+pub mod Examples

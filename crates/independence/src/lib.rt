@@ -1,0 +1,1 @@
+// Demand 3, independence between ids, stands in specs/ and is proved in proofs/. There is no code.
