@@ -9,7 +9,7 @@ use mathlib.Core.Bool.{true, false}
 use mathlib.Core.List.{List, [], _∷_, _++_, append-nil, append-assoc}
 use lib.Dec.{ltb}
 use lib.ListN.{length, take, drop, getD, length-append, take-append-drop, List·getD-append}
-use lib.Seq.{length-sets, take-suc, length-take-le}
+use lib.Seq.{sets, length-sets, take-suc, length-take-le, take-append-seam}
 use borrow.Author.Tests.{lt-ltb, le-ltb, ltb-true, ltb-false}
 use mathlib.Core.Logic.{_⊎_, inl, inr}
 use Rattle.basics.specs.Bools.{which, by-test}
@@ -36,6 +36,29 @@ put-length {a} {l} {at = at} p = rw (p .stands) (length-sets l at a)
 pub put-over : {a l l′ : List ℕ} {next : ℕ} → Put a l 0 l′ next → length a ≤ length l → l′ ≡ over a l
 unfolding over
 put-over {a} {l} p h = p .stands ∙ sets-front a l h
+
+pub put-take : {a l l′ : List ℕ} {next : ℕ} → Put a l 0 l′ next → length a ≤ length l → take next l′ ≡ a
+unfolding over
+put-take {a} {l} p h = rw (p .past, zero-add, put-over p h) (take-append-seam a (drop (length a) l))
+
+-- A text that is being put: what is left of it makes of the buffer as it is now what the whole makes of the buffer at the start.
+pub record Left (text l : List ℕ) (at : ℕ) (l′ : List ℕ) (next : ℕ) (left : List ℕ) : Type 0 where
+  pub to-stand : sets l′ next left ≡ sets l at text
+  pub to-pass : next + length left ≡ at + length text
+  pub same-length : length l′ ≡ length l
+
+pub left-start : (text l : List ℕ) (at : ℕ) → Left text l at l at text
+left-start text l at = record { to-stand = refl; to-pass = refl; same-length = refl }
+
+pub left-put : {text a b l l′ l″ : List ℕ} {at next past : ℕ} → Left text l at l′ next (a ++ b) → Put a l′ next l″ past → Left text l at l″ past b
+left-put {a = a} {b} {l′ = l′} {next = next} w p = record {
+  to-stand = rw (p .stands, p .past) (sym (sets-append a b l′ next)) ∙ w .to-stand;
+  to-pass = rw (p .past) (add-assoc next (length a) (length b) ∙ ap (λ (n : ℕ). next + n) (sym (length-append a b)) ∙ w .to-pass);
+  same-length = put-length p ∙ w .same-length;
+}
+
+pub left-none : {text l l′ : List ℕ} {at next : ℕ} → Left text l at l′ next [] → Put text l at l′ next
+left-none {next = next} w = record { stands = w .to-stand; past = sym (add-zero next) ∙ w .to-pass }
 
 -- ---- decimal numbers
 
