@@ -1,0 +1,205 @@
+-- The lines of document 01's 'Positions tried' that it marks with a star, evaluated against the definitions that the contracts cite: one list, one proof.
+-- Assumes nothing.
+use Prim.Native.Nat.{ℕ}
+use mathlib.Core.Path.{_≡_, refl}
+use mathlib.Core.Bool.{Bool, true, false}
+use mathlib.Core.Option.{Option, none, some}
+use mathlib.Core.List.{List, [], _∷_, map}
+use lib.ListN.{replicate}
+use lib.IntN.{pos, negsuc}
+use lib.Ieee.{Float, nan, inf, fin, binary64, add, sub, mul, div, ofInt, toUnsigned, ofBits}
+use Rattle.basics.specs.Refusals.{Answer, refused, success}
+use Rattle.floats.specs.Rounded.{zeroF, pow2, pow2⁻}
+use Rattle.floats.specs.Tests.{within}
+use Rattle.floats.specs.Sqrt.{sqrtOf}
+use Rattle.geometry.specs.Position.{positionOf}
+use Rattle.geometry.specs.Distances.{pointCircleAnswer}
+use Rattle.geometry.specs.declared.Zeta.{Zeta}
+use Rattle.geometry.specs.Cells.{zetas, triangleCoords, inside}
+use Rattle.grid.specs.Divisions.{counts}
+use Rattle.grid_search.specs.declared.GridSearch.{GridSearch}
+use Rattle.grid_search.specs.declared.GivenU64.the-variants as count
+use Rattle.grid_search.specs.declared.GivenF64.the-variants as float
+use Rattle.grid_search.specs.Sheet.{newSheet}
+use Rattle.grid_search.specs.Examples.{S, lowCorner, highCorner}
+use Rattle.table.specs.Rows.{keyIn, before, same, chain, putRow}
+use Rattle.rows.specs.Library.{Library, Turn, table}
+use Rattle.rows.specs.Insert.{containerOf, insertion}
+use Rattle.search.specs.Search.{searchAnswer}
+
+-- what a line states: floats, numbers, a test's outcome, or a refusal
+pub data Stated : Type 0 where
+  floats : List Float → Stated
+  numbers : List ℕ → Stated
+  test : Bool → Stated
+  number : ℕ → Stated
+  nothing : Stated
+  accepted : Stated
+  refusal : ℕ → Stated
+
+-- ---- the answers as statements
+
+ofSheet : Answer GridSearch → Stated
+ofSheet (refused n) = refusal n
+ofSheet (success s) = accepted
+
+ofInsertion : Answer ℕ → Stated
+ofInsertion (refused n) = refusal n
+ofInsertion (success n) = number n
+
+ofSearch : Answer (Option ℕ) → Stated
+ofSearch (refused n) = refusal n
+ofSearch (success none) = nothing
+ofSearch (success (some i)) = number i
+
+ofDistance : Answer Float → Stated
+ofDistance (refused n) = refusal n
+ofDistance (success d) = floats (d ∷ [])
+
+-- the keys of the rows in use
+keysOf : Library → Stated
+unfolding table
+keysOf l = numbers (map keyIn (table l))
+
+-- ---- the floats of the lines
+
+abbrev half : Float
+half = fin false 1 (negsuc 0)
+
+-- 2.5, 3.5, 5.5
+abbrev twoAndHalf : Float
+twoAndHalf = fin false 5 (negsuc 0)
+
+abbrev threeAndHalf : Float
+threeAndHalf = fin false 7 (negsuc 0)
+
+abbrev fiveAndHalf : Float
+fiveAndHalf = fin false 11 (negsuc 0)
+
+-- the next binary64 above 8: 8 + 2 ^ -49
+abbrev above8 : Float
+above8 = fin false 4503599627370497 (negsuc 48)
+
+-- 3 - 9 / 4096
+abbrev belowThree : Float
+belowThree = fin false 12279 (negsuc 11)
+
+-- ---- on sheet S: corners (0, 0) and (8, 4), divisions 8, border 0, tolerance 1/512
+
+-- S with another tolerance
+withTolerance : Float → Stated
+unfolding ofSheet newSheet
+withTolerance t = ofSheet (newSheet lowCorner highCorner (count.Given 8) (float.Given t) (float.Given zeroF))
+
+-- a library with room for n rows and none in use, whatever stands in it
+room : ℕ → Library
+room n = record { keys = replicate n 77; ids = replicate n 5; xs = replicate n nan; ys = replicate n (inf true); zs = replicate n half; used = 0 }
+
+-- id 7 at (2, 1), then at (5.5, 2.5); id 8 alone
+seven : ℕ → Turn ℕ
+unfolding insertion S room
+seven n = insertion S (room n) 7 (pow2 1 ∷ pow2 0 ∷ [])
+
+moved : Turn ℕ
+unfolding insertion S seven
+moved = insertion S (seven 8 .library) 7 (fiveAndHalf ∷ twoAndHalf ∷ [])
+
+eight : Turn ℕ
+unfolding insertion S room
+eight = insertion S (room 8) 8 (belowThree ∷ half ∷ [])
+
+find : Library → Float → Float → Stated
+unfolding ofSearch searchAnswer S
+find l x y = ofSearch (searchAnswer S l (x ∷ y ∷ []))
+
+-- the triangle (0, 0), (4, 0), (0, 4)
+inTriangle : Float → Float → Zeta
+unfolding triangleCoords
+inTriangle x y =
+    triangleCoords (positionOf (zeroF ∷ zeroF ∷ [])) (positionOf (pow2 2 ∷ zeroF ∷ [])) (positionOf (zeroF ∷ pow2 2 ∷ [])) (positionOf (x ∷ y ∷ []))
+
+-- ---- the list: what the definitions give, and what document 01 states
+
+pub record Line : Type 0 where
+  pub given : Stated
+  pub stated : Stated
+
+line : Stated → Stated → Line
+line g s = record { given = g; stated = s }
+
+pub lines : List Line
+unfolding line sqrtOf containerOf S find seven moved eight withTolerance pointCircleAnswer ofDistance ofInsertion keysOf inTriangle inside
+lines =
+    -- S has divisions 8 and 4, and side 1
+    line (numbers (counts 2 (S .ndiv))) (numbers (8 ∷ 4 ∷ []))
+    ∷ line (floats (S .«side_length» ∷ [])) (floats (pow2 0 ∷ []))
+    -- the roots of 2.25 and 0.25
+    ∷ line (floats (sqrtOf (fin false 9 (negsuc 1)) ∷ [])) (floats (fin false 3 (negsuc 0) ∷ []))
+    ∷ line (floats (sqrtOf (pow2⁻ 2) ∷ [])) (floats (half ∷ []))
+    -- the keys of (0, 0), (3.5, 2.5) and (8, 4); the next float above 8
+    ∷ line (number (containerOf S (zeroF ∷ zeroF ∷ []))) (number 0)
+    ∷ line (number (containerOf S (threeAndHalf ∷ twoAndHalf ∷ []))) (number 19)
+    ∷ line (number (containerOf S (pow2 3 ∷ pow2 2 ∷ []))) (number 31)
+    ∷ line (find (room 8) above8 (pow2 2)) (refusal 11)
+    -- id 7 at (2, 1) into empty rows; with 3 free rows
+    ∷ line (ofInsertion (seven 8 .answer)) (number 4)
+    ∷ line (keysOf (seven 8 .library)) (numbers (1 ∷ 2 ∷ 9 ∷ 10 ∷ []))
+    ∷ line (ofInsertion (seven 3 .answer)) (refusal 12)
+    -- afterwards (2, 1) finds 7; at (5.5, 2.5) key 21 is added, and (2, 1) still finds 7
+    ∷ line (find (seven 8 .library) (pow2 1) (pow2 0)) (number 7)
+    ∷ line (keysOf (moved .library)) (numbers (1 ∷ 2 ∷ 9 ∷ 10 ∷ 21 ∷ []))
+    ∷ line (find (moved .library) (pow2 1) (pow2 0)) (number 7)
+    -- id 8 alone at (3 - 9/4096, 0.5), and (3, 0.5)
+    ∷ line (keysOf (eight .library)) (numbers (2 ∷ []))
+    ∷ line (find (eight .library) (fin false 3 (pos 0)) half) (nothing)
+    -- S with tolerance 0.5, and with 0.4375
+    ∷ line (withTolerance half) (refusal 10)
+    ∷ line (withTolerance (fin false 7 (negsuc 3))) (accepted)
+    -- the circle of centre (4, 2) and radius 1: (5, 2) and (4, 2)
+    ∷ line (ofDistance (pointCircleAnswer (pow2 2 ∷ pow2 1 ∷ []) (pow2 0) (fin false 5 (pos 0) ∷ pow2 1 ∷ []))) (floats (zeroF ∷ []))
+    ∷ line (ofDistance (pointCircleAnswer (pow2 2 ∷ pow2 1 ∷ []) (pow2 0) (pow2 2 ∷ pow2 1 ∷ []))) (floats (fin true 1 (pos 0) ∷ []))
+    -- the triangle's coordinates of (1, 1) and (2, 2), which is inside
+    ∷ line (floats (zetas 3 (inTriangle (pow2 0) (pow2 0)))) (floats (half ∷ pow2⁻ 2 ∷ pow2⁻ 2 ∷ []))
+    ∷ line (floats (zetas 3 (inTriangle (pow2 1) (pow2 1)))) (floats (zeroF ∷ half ∷ half ∷ []))
+    ∷ line (test (inside zeroF (zetas 3 (inTriangle (pow2 1) (pow2 1))))) (test true)
+    ∷ []
+
+-- each line gives what it states
+abbrev pub Agree : List Line → Type 0
+Agree [] = Unit {0}
+Agree (l ∷ ls) = (l .given ≡ l .stated) × Agree ls
+
+pub as-stated : Agree lines
+unfolding lines add sub mul div ofInt toUnsigned within room before same chain putRow
+as-stated = (refl, (refl, (refl, (refl, (refl, (refl, (refl, (refl, (refl, (refl, (refl, (refl, (refl, (refl, (refl, (refl, (refl, (refl, (refl, (refl, (refl, (refl, (refl, tt)))))))))))))))))))))))
+
+-- ---- beside them: 12 is judged on the rows as they would stand after the call; a mark is found wherever it has a row
+
+-- four rows, all in use: 7 at (2, 1)
+fourRows : Library
+fourRows = record { keys = 1 ∷ 2 ∷ 9 ∷ 10 ∷ []; ids = replicate 4 7; xs = replicate 4 (pow2 1); ys = replicate 4 (pow2 0); zs = replicate 4 zeroF; used = 4 }
+
+-- 7 at (2, 1) once more
+full : Turn ℕ
+unfolding insertion S fourRows
+full = insertion S fourRows 7 (pow2 1 ∷ pow2 0 ∷ [])
+
+-- 7 at the next float above 8
+beyond : Turn ℕ
+unfolding insertion S room
+beyond = insertion S (room 8) 7 (above8 ∷ pow2 2 ∷ [])
+
+pub others : List Line
+unfolding line ofInsertion ofSearch searchAnswer keysOf find full beyond moved S
+others =
+    line (ofInsertion (full .answer)) (number 4)
+    ∷ line (keysOf (full .library)) (numbers (1 ∷ 2 ∷ 9 ∷ 10 ∷ []))
+    ∷ line (ofInsertion (beyond .answer)) (refusal 11)
+    ∷ line (keysOf (beyond .library)) (numbers [])
+    ∷ line (find (moved .library) fiveAndHalf twoAndHalf) (number 7)
+    ∷ line (ofSearch (searchAnswer S (room 8) [])) (refusal 2)
+    ∷ []
+
+pub others-stated : Agree others
+unfolding others add sub mul div ofInt toUnsigned within room fourRows before same chain putRow
+others-stated = (refl, (refl, (refl, (refl, (refl, (refl, tt))))))

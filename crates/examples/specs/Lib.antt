@@ -1,0 +1,2 @@
+-- The examples that document 01 marks to be proved.
+pub mod Examples

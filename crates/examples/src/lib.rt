@@ -1,0 +1,1 @@
+// The worked examples of document 01 stand in specs/. There is no code.
