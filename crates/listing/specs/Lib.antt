@@ -1,3 +1,4 @@
 -- The words of the contracts of module 8.
 pub mod Place
 pub mod Listing
+pub mod Posts

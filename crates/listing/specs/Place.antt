@@ -1,7 +1,7 @@
 -- Module 8: places and filters, which rows count, and what turns a place away.
 -- Assumes nothing.
 use Prim.Native.Nat.{ℕ}
-use mathlib.Core.Bool.{Bool, true, false, not, _&&_, _||_}
+use mathlib.Core.Bool.{Bool, true, false, cond, not, _&&_, _||_}
 use mathlib.Core.List.{List, [], _∷_}
 use lib.Dec.{leb, eqb}
 use lib.ListN.{length, getD}
@@ -30,6 +30,16 @@ pub data Asked : Type 0 where
   cylinder : List Float → List Float → Float → Asked
   plane : ℕ → Float → Asked
   unknown : Asked
+
+-- The place of a number of the C interface: 0 line, 1 circle, 2 cylinder, 3, 4, 5 the planes xy, yz, xz.
+unfoldable pub askedOf : ℕ → List Float → List Float → Float → Asked
+askedOf p a b v =
+    cond (eqb p 0) (line a b)
+    (cond (eqb p 1) (circle a v)
+    (cond (eqb p 2) (cylinder a b v)
+    (cond (eqb p 3) (plane 2 v)
+    (cond (eqb p 4) (plane 0 v)
+    (cond (eqb p 5) (plane 1 v) unknown)))))
 
 -- the place that the code makes of it, read back on so many axes
 unfoldable pub asked : ℕ → Place → Asked

@@ -1,4 +1,8 @@
 // Module 8: the marks on a line, a circle, a cylinder or a plane. From gemlab's `search_on_line` and its kin.
+mod asked;
+mod near;
+mod walk;
+
 ghost use mathlib.Core.Path.{_≡_};
 use geometry::Position;
 

@@ -1,0 +1,22 @@
+-- `listing::asked::is_unfit_filter` meets its contract. Assumes nothing.
+use borrow.Author.Needs.{needs}
+use Rattle.listing.specs.Place.{unfitFilter}
+use Rattle.listing.proofs.asked.is_unfit_filter.Statement.{statement}
+use Rattle.listing.proofs.asked.is_unfit_filter.Tie as tie
+
+enum-told : tie.Need-enum-told
+enum-told c = search needs
+
+enum-known-filter : tie.Need-enum-known-filter
+enum-known-filter c = search needs
+
+returns : tie.Need-returns
+unfolding unfitFilter
+returns c = rw (c .enum-told .given .1)
+
+returns-2 : tie.Need-returns-2
+unfolding unfitFilter
+returns-2 c = rw (c .before .filter .given .1)
+
+pub is-unfit-filter-spec : {M : Type 1} → statement M
+is-unfit-filter-spec = tie.close (tie.spec enum-told enum-known-filter returns returns-2)

@@ -1,0 +1,57 @@
+-- What the inner functions of a listing ask and ensure.
+-- Assumes nothing.
+use Prim.Native.Nat.{ℕ, _-_, _≤_, _<_}
+use mathlib.Core.Path.{_≡_}
+use mathlib.Core.Bool.{Bool, true, false}
+use mathlib.Core.List.{List, [], _∷_, map}
+use lib.Dec.{ltb}
+use lib.ListN.{length, getD, take}
+use lib.Ieee.{Float}
+use Rattle.basics.specs.Lists.{all, keep}
+use Rattle.basics.specs.Refusals.{refuse, fault}
+use Rattle.geometry.specs.Position.{dimension}
+use Rattle.grid.specs.Divisions.{counts, division}
+use Rattle.grid.specs.Containers.{containers}
+use Rattle.grid_search.specs.declared.GridSearch.{GridSearch}
+use Rattle.table.specs.Rows.{rowsOf, idIn}
+use Rattle.sorting.specs.Posts.{within, Below}
+use Rattle.listing.specs.declared.Place.{Place}
+use Rattle.listing.specs.declared.Filter.{Filter}
+use Rattle.listing.specs.declared.Listed.{Listed}
+use Rattle.listing.specs.Place.{asked, unfit, unfitFilter, containerNear, isOn}
+use Rattle.listing.specs.Listing.{idsOf, listOut, listed}
+
+-- what is known of the sheet, the rows, the place and the filter when the rows are walked
+pub record Known (s : GridSearch) (keys ids : List ℕ) (xs ys zs : List Float) (used : ℕ) (p : Place) (f : Filter) : Type 0 where
+  pub axes : dimension (s .ndim) ≡ true
+  pub divisions : all division (counts (s .ndim) (s .ndiv)) ≡ true
+  pub in-keys : used ≤ length keys
+  pub in-ids : used ≤ length ids
+  pub in-xs : used ≤ length xs
+  pub in-ys : used ≤ length ys
+  pub in-zs : used ≤ length zs
+  pub small : used ≤ 65536
+  pub keys-below : (i : ℕ) → i < used → getD keys i 0 < containers (counts (s .ndim) (s .ndiv))
+  pub fit : unfit (s .ndim) (asked (s .ndim) p) ≡ false
+  pub fit-filter : unfitFilter (s .ndim) f ≡ false
+
+-- where the walk is past row 0, whether the container of the row before is near
+abbrev pub Remembered : GridSearch → Place → List ℕ → ℕ → Bool → Type 0
+Remembered s p keys i near = 0 < i → near ≡ containerNear s (asked (s .ndim) p) (getD keys (i - 1) 0)
+
+-- n of the first i rows count, and the first n marks are their indices
+pub record Gathered (s : GridSearch) (p : Place) (f : Filter) (keys ids : List ℕ) (xs ys zs : List Float) (i n : ℕ) (marks : List ℕ) : Type 0 where
+  pub upto : n ≤ i
+  pub below : Below i n marks
+  pub ids-are : map (within ids) (take n marks) ≡ map idIn (keep (isOn s (asked (s .ndim) p) f) (rowsOf keys ids xs ys zs i))
+
+-- the first n marks name the ids of the rows that count, ascending, once each
+pub record Marked (s : GridSearch) (p : Place) (f : Filter) (keys ids : List ℕ) (xs ys zs : List Float) (used n : ℕ) (marks : List ℕ) : Type 0 where
+  pub inside : n ≤ length marks
+  pub below : Below (length ids) n marks
+  pub are : map (within ids) (take n marks) ≡ idsOf (isOn s (asked (s .ndim) p) f) (rowsOf keys ids xs ys zs used)
+
+-- what is returned, and what the list holds at exit, where only 14 can turn the call away
+pub record Out (ids list : List ℕ) (r : Listed) (after : List ℕ) : Type 0 where
+  pub answers : listed r ≡ listOut (fault (refuse 14 (ltb (length list) (length ids)) ∷ [])) ids list .answer
+  pub list-is : after ≡ listOut (fault (refuse 14 (ltb (length list) (length ids)) ∷ [])) ids list .list
