@@ -1,3 +1,4 @@
--- Laws of listings: the places, and the walk over the rows.
+-- Laws of listings: the places, the walk over the rows, and the answers.
 pub mod Places
 pub mod Walks
+pub mod Answers

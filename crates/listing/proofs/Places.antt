@@ -4,8 +4,8 @@ use Prim.Native.Nat.{ℕ, zero, suc, _≤_, _<_}
 use native.Mathlib.Omega.{arith}
 use mathlib.Core.Path.{_≡_, refl, sym, ap, ap₂, _∙_}
 use mathlib.Core.Logic.{_⊎_, inl, inr}
-use mathlib.Core.Bool.{Bool, true, false, not, _&&_}
-use mathlib.Core.List.{List, [], _∷_}
+use mathlib.Core.Bool.{true, false, not, _&&_}
+use mathlib.Core.List.{List}
 use lib.Dec.{eqb, leb}
 use lib.ListN.{length, getD}
 use lib.Ieee.{Float}
@@ -20,7 +20,6 @@ use Rattle.geometry.specs.Axes.{two-or-three, coords-of}
 use Rattle.grid.specs.Divisions.{counts}
 use Rattle.grid.specs.Containers.{pivots, centre}
 use Rattle.grid_search.specs.declared.GridSearch.{GridSearch}
-use Rattle.listing.specs.declared.Place.{Place}
 use Rattle.listing.specs.declared.Place.the-variants as place
 use Rattle.listing.specs.Place.{Asked, line, circle, cylinder, plane, unknown, askedOf, asked, placeDistance, centreOf, unfit, wrongLength}
 

@@ -3,29 +3,27 @@
 use Prim.Native.Nat.{ℕ, zero, suc, _+_, _-_, _≤_, _<_}
 use native.Mathlib.Numerals.{add-one}
 use native.Mathlib.Omega.{arith}
-use mathlib.Core.Path.{_≡_, refl, sym, ap, ap₂, _∙_, subst}
+use mathlib.Core.Path.{_≡_, refl, sym, ap, _∙_, subst}
 use mathlib.Core.Bool.{Bool, true, false, cond, _&&_}
-use mathlib.Core.Option.{some, none}
 use mathlib.Core.List.{List, [], _∷_, _++_, map, map-append, append-nil}
-use lib.Dec.{ltb, eqb}
+use lib.Dec.{ltb}
 use lib.ListN.{length, getD, take, drop, set, length-append, length-map}
 use lib.Seq.{getD-set-same, getD-set-other, take-suc, take-suc-set, take-set-le, length-take-le, drop-cons, set-at, append-snoc}
 use lib.Ieee.{Float}
-use borrow.Author.Tests.{eqb-true, eqb-false, lt-ltb, le-ltb}
+use borrow.Author.Tests.{lt-ltb, le-ltb}
 use Rattle.basics.specs.Bools.{by-test}
 use Rattle.basics.specs.Lists.{keep, tab, enter, over}
-use Rattle.basics.specs.Refusals.{fault, refused, success}
+use Rattle.basics.specs.Refusals.{fault}
 use Rattle.geometry.specs.declared.Position.{Position}
 use Rattle.geometry.specs.Position.{coords}
 use Rattle.grid_search.specs.declared.GridSearch.{GridSearch}
 use Rattle.table.specs.declared.Row.{Row}
 use Rattle.table.specs.Rows.{rowAt, rowsOf, keyIn, idIn}
 use Rattle.sorting.specs.Sorted.{distinct}
-use Rattle.sorting.specs.Posts.{within, Below, Selected}
+use Rattle.sorting.specs.Posts.{within, Selected}
 use Rattle.sorting.proofs.Heaps.{by-index}
 use Rattle.listing.specs.declared.Place.{Place}
 use Rattle.listing.specs.declared.Filter.{Filter}
-use Rattle.listing.specs.declared.Listed.{Listed}
 use Rattle.listing.specs.declared.Listed.the-variants.{Count, Refused}
 use Rattle.listing.specs.Place.{Asked, asked, isOn, containerNear, pointNear, passes}
 use Rattle.listing.specs.Listing.{idsOf, listOut}

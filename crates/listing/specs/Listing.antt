@@ -1,6 +1,7 @@
 -- Module 8: the ids listed, ascending, once each, and what a listing answers and leaves in the lent list.
 -- Assumes nothing.
 use Prim.Native.Nat.{ℕ}
+use mathlib.Core.Path.{_≡_}
 use mathlib.Core.Bool.{Bool, true, false, cond}
 use mathlib.Core.Option.{Option, none, some}
 use mathlib.Core.List.{List, [], _∷_, _++_}
@@ -59,3 +60,8 @@ listing s l p f list = listOut (fault (listingTests s l p f (length list))) (ids
 abbrev pub listed : Listed → Answer ℕ
 listed (Count n) = success n
 listed (Refused n) = refused n
+
+-- what is returned, and what the list holds at exit, is what the definition gives
+pub record Lists (l : Listing) (r : Listed) (list : List ℕ) : Type 0 where
+  pub answers : listed r ≡ l .answer
+  pub list-is : list ≡ l .list

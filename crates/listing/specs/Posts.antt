@@ -2,18 +2,18 @@
 -- Assumes nothing.
 use Prim.Native.Nat.{ℕ, _-_, _≤_, _<_}
 use mathlib.Core.Path.{_≡_}
-use mathlib.Core.Bool.{Bool, true, false}
+use mathlib.Core.Bool.{Bool, false}
 use mathlib.Core.List.{List, [], _∷_, map}
 use lib.Dec.{ltb}
 use lib.ListN.{length, getD, take}
 use lib.Ieee.{Float}
-use Rattle.basics.specs.Lists.{all, keep}
+use Rattle.basics.specs.Lists.{keep}
 use Rattle.basics.specs.Refusals.{refuse, fault}
-use Rattle.geometry.specs.Position.{dimension}
-use Rattle.grid.specs.Divisions.{counts, division}
+use Rattle.grid.specs.Divisions.{counts}
 use Rattle.grid.specs.Containers.{containers}
 use Rattle.grid_search.specs.declared.GridSearch.{GridSearch}
 use Rattle.table.specs.Rows.{rowsOf, idIn}
+use Rattle.rows.specs.Posts.{Checked}
 use Rattle.sorting.specs.Posts.{within, Below}
 use Rattle.listing.specs.declared.Place.{Place}
 use Rattle.listing.specs.declared.Filter.{Filter}
@@ -23,13 +23,7 @@ use Rattle.listing.specs.Listing.{idsOf, listOut, listed}
 
 -- what is known of the sheet, the rows, the place and the filter when the rows are walked
 pub record Known (s : GridSearch) (keys ids : List ℕ) (xs ys zs : List Float) (used : ℕ) (p : Place) (f : Filter) : Type 0 where
-  pub axes : dimension (s .ndim) ≡ true
-  pub divisions : all division (counts (s .ndim) (s .ndiv)) ≡ true
-  pub in-keys : used ≤ length keys
-  pub in-ids : used ≤ length ids
-  pub in-xs : used ≤ length xs
-  pub in-ys : used ≤ length ys
-  pub in-zs : used ≤ length zs
+  pub checked : Checked s keys ids xs ys zs used
   pub small : used ≤ 65536
   pub keys-below : (i : ℕ) → i < used → getD keys i 0 < containers (counts (s .ndim) (s .ndiv))
   pub fit : unfit (s .ndim) (asked (s .ndim) p) ≡ false

@@ -9,7 +9,7 @@ gather-requires : tie.Need-gather-requires
 gather-requires c κs = search needs
 
 select-by-requires : tie.Need-select-by-requires
-select-by-requires c κs = (omega (arith, c .before .before .before .gather .kept .1 .1 .1 .1 .1 .1 .1 .1 .1 .0, c .before .before .before .gather .ensures .upto, c .before .before .before .before .before .before .before .before .before .before .before .pre .1), λ i h. omega (arith, c .before .before .before .gather .ensures .below i h, c .before .before .before .before .before .before .before .before .before .before .before .pre .0 .in-ids))
+select-by-requires c κs = (omega (arith, c .before .before .before .gather .kept .1 .1 .1 .1 .1 .1 .1 .1 .1 .0, c .before .before .before .gather .ensures .upto, c .before .before .before .before .before .before .before .before .before .before .before .pre .1), λ i h. omega (arith, c .before .before .before .gather .ensures .below i h, c .before .before .before .before .before .before .before .before .before .before .before .pre .0 .checked .in-ids))
 
 same-length : tie.Need-same-length
 same-length c = search needs

@@ -14,7 +14,7 @@ shared-slice-read-key : tie.Need-shared-slice-read-key
 shared-slice-read-key c = search needs
 
 container-near-requires : tie.Need-container-near-requires
-container-near-requires c κs = (c .before .before .before .before .before .before .before .pre .0 .axes, (c .before .before .before .before .before .before .before .pre .0 .fit, (c .before .before .before .before .before .before .before .pre .0 .divisions, c .before .before .before .before .before .before .before .pre .0 .keys-below (c .before .before .before .before .before .before .before .args .i) (c .before .before .before .before .before .before .before .pre .1 .0))))
+container-near-requires c κs = (c .before .before .before .before .before .before .before .pre .0 .checked .sheet .axes, (c .before .before .before .before .before .before .before .pre .0 .fit, (c .before .before .before .before .before .before .before .pre .0 .checked .sheet .divisions, c .before .before .before .before .before .before .before .pre .0 .keys-below (c .before .before .before .before .before .before .before .args .i) (c .before .before .before .before .before .before .before .pre .1 .0))))
 
 returns : tie.Need-returns
 returns c = c .container-near .ensures
@@ -32,7 +32,7 @@ returns-2 : tie.Need-returns-2
 returns-2 c = c .before .before .before .before .before .before .before .before .before .pre .1 .1 (omega (arith, c .before .before .if1 .left)) ∙ ap (λ (k : ℕ). containerNear (c .before .before .before .before .before .before .before .before .before .args .sheet) (asked (c .before .before .before .before .before .before .before .before .before .args .sheet .ndim) (c .before .before .before .before .before .before .before .before .before .args .place)) k) (c .if2 .taken)
 
 container-near-requires-2 : tie.Need-container-near-requires-2
-container-near-requires-2 c κs = (c .before .before .before .before .before .before .before .before .before .pre .0 .axes, (c .before .before .before .before .before .before .before .before .before .pre .0 .fit, (c .before .before .before .before .before .before .before .before .before .pre .0 .divisions, c .before .before .before .before .before .before .before .before .before .pre .0 .keys-below (c .before .before .before .before .before .before .before .before .before .args .i) (c .before .before .before .before .before .before .before .before .before .pre .1 .0))))
+container-near-requires-2 c κs = (c .before .before .before .before .before .before .before .before .before .pre .0 .checked .sheet .axes, (c .before .before .before .before .before .before .before .before .before .pre .0 .fit, (c .before .before .before .before .before .before .before .before .before .pre .0 .checked .sheet .divisions, c .before .before .before .before .before .before .before .before .before .pre .0 .keys-below (c .before .before .before .before .before .before .before .before .before .args .i) (c .before .before .before .before .before .before .before .before .before .pre .1 .0))))
 
 returns-3 : tie.Need-returns-3
 returns-3 c = c .container-near2 .ensures

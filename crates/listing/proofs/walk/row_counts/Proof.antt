@@ -14,7 +14,7 @@ read-row-requires : tie.Need-read-row-requires
 read-row-requires c κs = search needs
 
 point-counts-requires : tie.Need-point-counts-requires
-point-counts-requires c κs = (c .before .before .before .before .before .before .before .pre .0 .axes, (c .before .before .before .before .before .before .before .pre .0 .fit, c .before .before .before .before .before .before .before .pre .0 .fit-filter))
+point-counts-requires c κs = (c .before .before .before .before .before .before .before .pre .0 .checked .sheet .axes, (c .before .before .before .before .before .before .before .pre .0 .fit, c .before .before .before .before .before .before .before .pre .0 .fit-filter))
 
 returns-2 : tie.Need-returns-2
 returns-2 c = row-near _ _ _ _ _ (c .before .before .before .before .before .before .before .before .pre .1 .1) (not-false _ (c .before .before .if1 .left)) _ _ (ap (λ (r : Row). r .at) (c .before .read-row .ensures)) (c .point-counts .ensures)
