@@ -73,9 +73,73 @@ static void sheets(void)
     tell("side from (-1,-1,-1) to (1,1,1) with every setting left out", number, floats[14]);
 }
 
+/* A library with room for 8 rows. */
+static uint64_t keys[8], ids[8], used;
+static double xs[8], ys[8], zs[8];
+static uint64_t sheet_numbers[GEMLAB_SHEET_NUMBERS];
+static double sheet_floats[GEMLAB_SHEET_FLOATS];
+
+/* Puts a mark into the library, of which the first `space` rows are lent. */
+static void put(uint64_t id, double x, double y, size_t space)
+{
+    const double at[2] = {x, y};
+    uint64_t number = gemlab_grid_search_insert(sheet_numbers, GEMLAB_SHEET_NUMBERS, sheet_floats, GEMLAB_SHEET_FLOATS,
+                                                keys, space, ids, space, xs, space, ys, space, zs, space,
+                                                &used, id, at, 2);
+
+    if (number == 0) {
+        printf("mark %" PRIu64 " at (%g,%g): keys", id, x, y);
+        for (uint64_t i = 0; i < used; i++) {
+            printf(" %" PRIu64, keys[i]);
+        }
+        printf("\n");
+    } else {
+        printf("mark %" PRIu64 " at (%g,%g): refused %" PRIu64 ", %" PRIu64 " rows in use\n", id, x, y, number, used);
+    }
+}
+
+/* The mark at a position. */
+static void find(double x, double y)
+{
+    const double at[2] = {x, y};
+    uint64_t found = 0, id = 0;
+    uint64_t number = gemlab_grid_search_search(sheet_numbers, GEMLAB_SHEET_NUMBERS, sheet_floats, GEMLAB_SHEET_FLOATS,
+                                                keys, 8, ids, 8, xs, 8, ys, 8, zs, 8, used, at, 2, &found, &id);
+
+    if (number != 0) {
+        printf("at (%g,%g): refused %" PRIu64 "\n", x, y, number);
+    } else if (found) {
+        printf("at (%g,%g): mark %" PRIu64 "\n", x, y, id);
+    } else {
+        printf("at (%g,%g): nothing\n", x, y);
+    }
+}
+
+static void libraries(void)
+{
+    const double low[2] = {0, 0}, high[2] = {8, 4};
+
+    gemlab_grid_search_new(low, 2, high, 2, 1, 8, 1, 1.0 / 512, 1, 0,
+                           sheet_numbers, GEMLAB_SHEET_NUMBERS, sheet_floats, GEMLAB_SHEET_FLOATS);
+    find(2, 1);
+    put(7, 2, 1, 3);
+    put(7, 2, 1, 8);
+    find(2, 1);
+    put(7, 5.5, 2.5, 8);
+    find(2, 1);
+    find(5.5, 2.5);
+    put(8, 9, 1, 8);
+    used = 0;
+    put(8, 3 - 9.0 / 4096, 0.5, 8);
+    find(3, 0.5);
+    keys[0] = 32;
+    find(3, 0.5);
+}
+
 int main(void)
 {
     distances();
     sheets();
+    libraries();
     return 0;
 }

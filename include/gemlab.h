@@ -156,6 +156,62 @@ uint64_t gemlab_grid_search_new(const double *xmin, size_t xmin_len,
                                 uint64_t *numbers, size_t numbers_len,
                                 double *floats, size_t floats_len);
 
+/*
+ * A library of marks.
+ *
+ * A mark is a number, any uint64_t, at a position. A library keeps marks on one sheet as rows: one row
+ * for each mark and container, in five lists of one length, the library's space, and the count of the
+ * rows in use, which stand in front:
+ *
+ *     keys     the container's key: i + j * nx, and + k * nx * ny in 3D
+ *     ids      the mark's number
+ *     xs ys zs its coordinates (zs: +0 in 2D)
+ *
+ * Rows are in strict order of key, then id. An empty library has the count 0; its entries, and those
+ * past the count in any library, may have any content and are never read or changed but where a new
+ * row takes their place. A space is at most 65,536.
+ *
+ * Every call looks at the whole library first, and says 13 where the sheet is damaged, the lists
+ * differ in length, the count is above that, rows are out of order, a key is not below the number of
+ * containers, or a coordinate is not finite, past its limit, or in 2D a third one is not +0.
+ */
+
+/*
+ * Puts the mark id at x into the library: a row in the container of x, and one in each container that
+ * a corner of the halo falls into, the points x plus or minus the tolerance on each axis that are
+ * within the sheet. A row that the mark has there takes the new coordinates; its rows elsewhere stay.
+ * *used becomes the new count.
+ * Refusals: 24 (a list is longer than 65,536), 13, 2, 3, 11, 17 (of x or of a halo corner within the
+ * sheet), 12 (more new rows than are free; a call that needs none is not refused).
+ */
+uint64_t gemlab_grid_search_insert(const uint64_t *numbers, size_t numbers_len,
+                                   const double *floats, size_t floats_len,
+                                   uint64_t *keys, size_t keys_len,
+                                   uint64_t *ids, size_t ids_len,
+                                   double *xs, size_t xs_len,
+                                   double *ys, size_t ys_len,
+                                   double *zs, size_t zs_len,
+                                   uint64_t *used,
+                                   uint64_t id,
+                                   const double *x, size_t x_len);
+
+/*
+ * The mark at x: of the rows in x's container whose distance from x is at most tol_dist, the lowest
+ * id. *found becomes 1 and *id that number, or *found becomes 0 and *id stays.
+ * Refusals: 24, 13, 2, 3, 11, 17.
+ */
+uint64_t gemlab_grid_search_search(const uint64_t *numbers, size_t numbers_len,
+                                   const double *floats, size_t floats_len,
+                                   const uint64_t *keys, size_t keys_len,
+                                   const uint64_t *ids, size_t ids_len,
+                                   const double *xs, size_t xs_len,
+                                   const double *ys, size_t ys_len,
+                                   const double *zs, size_t zs_len,
+                                   uint64_t used,
+                                   const double *x, size_t x_len,
+                                   uint64_t *found,
+                                   uint64_t *id);
+
 #ifdef __cplusplus
 }
 #endif

@@ -2,3 +2,4 @@
 pub mod Answers
 pub mod Sheets
 pub mod SheetLaws
+pub mod Libraries

@@ -1,0 +1,2 @@
+-- Laws of the answers that are told to C.
+mod Libraries

@@ -1,0 +1,37 @@
+-- What insertion and search give to C: the number, and everything lent at exit.
+-- Assumes nothing.
+use Prim.Native.Nat.{ℕ}
+use mathlib.Core.Path.{_≡_}
+use mathlib.Core.Option.{Option, none, some}
+use mathlib.Core.List.{List}
+use lib.Ieee.{Float}
+use Rattle.basics.specs.Refusals.{Answer, refused, success, through}
+use Rattle.rows.specs.Library.{Turn}
+use Rattle.capi.specs.Answers.{number, written}
+
+-- an insertion: the five lists and the used count are those of the library that the call leaves
+pub record ToldTurn (t : Turn ℕ) (r : ℕ) (keys ids : List ℕ) (xs ys zs : List Float) (used : ℕ) : Type 0 where
+  pub returned : r ≡ number (t .answer)
+  pub keys-are : keys ≡ t .library .keys
+  pub ids-are : ids ≡ t .library .ids
+  pub xs-are : xs ≡ t .library .xs
+  pub ys-are : ys ≡ t .library .ys
+  pub zs-are : zs ≡ t .library .zs
+  pub used-is : used ≡ t .library .used
+
+-- whether something is found
+abbrev pub flag : Option ℕ → ℕ
+flag none = 0
+flag (some i) = 1
+
+-- the id found, and where none is the number that was there
+abbrev pub idAfter : Answer (Option ℕ) → ℕ → ℕ
+idAfter (refused n) old = old
+idAfter (success none) old = old
+idAfter (success (some i)) old = i
+
+-- a search: whether something is found, and its id
+pub record ToldFound (a : Answer (Option ℕ)) (r found found′ id id′ : ℕ) : Type 0 where
+  pub returned : r ≡ number a
+  pub found-is : found′ ≡ written (through flag a) found
+  pub id-is : id′ ≡ idAfter a id

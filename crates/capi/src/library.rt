@@ -1,0 +1,74 @@
+// A library of marks on a sheet: insertion and search.
+ghost use mathlib.Core.Path.{_≡_};
+ghost use Rattle.rows.specs.Library.{library};
+ghost use Rattle.rows.specs.Insert.{insertion};
+ghost use Rattle.search.specs.Search.{searchAnswer};
+ghost use Rattle.capi.specs.Sheets.{sheetOf};
+ghost use Rattle.capi.specs.Libraries.{ToldTurn, ToldFound};
+use crate::sheet::sheet_of;
+use rows::Inserted;
+use search::Found;
+use table::ItemId;
+
+#[no_mangle]
+pub extern "C" fn gemlab_grid_search_insert(
+    numbers: &[u64],
+    floats: &[f64],
+    keys: &mut [u64],
+    ids: &mut [u64],
+    xs: &mut [f64],
+    ys: &mut [f64],
+    zs: &mut [f64],
+    used: &mut u64,
+    id: u64,
+    x: &[f64],
+) -> u64
+    ensures { λ r. ⌜ ToldTurn (insertion (sheetOf (now (numbers .entry)) (now (floats .entry)))
+        (library (now (keys .entry)) (now (ids .entry)) (now (xs .entry)) (now (ys .entry)) (now (zs .entry)) (now (used .entry))) id (now (x .entry)))
+        r (now (keys .exit)) (now (ids .exit)) (now (xs .exit)) (now (ys .exit)) (now (zs .exit)) (now (used .exit)) ⌝ }
+{
+    let sheet = sheet_of(numbers, floats);
+    let count = *used as usize;
+    let answer = rows::insert(sheet, keys, ids, xs, ys, zs, count, ItemId(id), x);
+    match answer {
+        Inserted::Stored(n) => {
+            *used = n as u64;
+            0
+        }
+        Inserted::Refused(n) => n,
+    }
+}
+
+#[no_mangle]
+pub extern "C" fn gemlab_grid_search_search(
+    numbers: &[u64],
+    floats: &[f64],
+    keys: &[u64],
+    ids: &[u64],
+    xs: &[f64],
+    ys: &[f64],
+    zs: &[f64],
+    used: u64,
+    x: &[f64],
+    found: &mut u64,
+    id: &mut u64,
+) -> u64
+    ensures { λ r. ⌜ ToldFound (searchAnswer (sheetOf (now (numbers .entry)) (now (floats .entry)))
+        (library (now (keys .entry)) (now (ids .entry)) (now (xs .entry)) (now (ys .entry)) (now (zs .entry)) used) (now (x .entry)))
+        r (now (found .entry)) (now (found .exit)) (now (id .entry)) (now (id .exit)) ⌝ }
+{
+    let sheet = sheet_of(numbers, floats);
+    let answer = search::search(sheet, keys, ids, xs, ys, zs, used as usize, x);
+    match answer {
+        Found::Id(i) => {
+            *found = 1;
+            *id = i.0;
+            0
+        }
+        Found::Nothing => {
+            *found = 0;
+            0
+        }
+        Found::Refused(n) => n,
+    }
+}
