@@ -7,6 +7,7 @@ mod floats;
 mod geometry;
 mod near;
 mod random;
+mod rows;
 mod sheet;
 mod tally;
 mod timing;
@@ -21,6 +22,8 @@ const PARTS: &[(&str, fn(&mut Tally))] = &[
     ("bench-geometry", geometry::measure),
     ("sheet", sheet::compare),
     ("bench-sheet", sheet::measure),
+    ("rows", rows::compare),
+    ("bench-rows", rows::measure),
 ];
 
 fn main() -> ExitCode {
