@@ -136,10 +136,78 @@ static void libraries(void)
     find(3, 0.5);
 }
 
+/* The marks on a place, into a list of which the first `room` entries are lent. */
+static void list(const char *what, uint64_t place, const double *a, const double *b, double number,
+                 uint64_t filter, double low, double high, size_t room)
+{
+    uint64_t out[4] = {0}, count = 0;
+    uint64_t refusal = gemlab_grid_search_list(sheet_numbers, GEMLAB_SHEET_NUMBERS, sheet_floats, GEMLAB_SHEET_FLOATS,
+                                               keys, 8, ids, 8, xs, 8, ys, 8, zs, 8, used, place, a, 2, b, 2, number,
+                                               filter, 0, low, high, out, room, &count);
+
+    printf("%s:", what);
+    if (refusal != 0) {
+        printf(" refused %" PRIu64 "\n", refusal);
+        return;
+    }
+    for (uint64_t i = 0; i < count; i++) {
+        printf(" %" PRIu64, out[i]);
+    }
+    printf(" (%" PRIu64 ")\n", count);
+}
+
+static void lists(void)
+{
+    const double a[2] = {0, 1.5}, b[2] = {8, 1.5}, corner[2] = {1, 1}, centre[2] = {4, 1.5};
+
+    used = 0;
+    list("marks on a line with one end, in an empty library", GEMLAB_LINE, corner, corner, 0, GEMLAB_EVERYTHING, 0, 0, 4);
+    put(9, 6.5, 1.5, 8);
+    put(3, 1.5, 1.5, 8);
+    put(5, 4.5, 2.5, 8);
+    list("marks on a line with one end", GEMLAB_LINE, corner, corner, 0, GEMLAB_EVERYTHING, 0, 0, 4);
+    list("marks with y = 1.5", GEMLAB_LINE, a, b, 0, GEMLAB_EVERYTHING, 0, 0, 4);
+    list("of these, those with x from 0 to 4", GEMLAB_LINE, a, b, 0, GEMLAB_RANGE, 0, 4, 4);
+    list("marks with y = 1.5, in a list of one entry", GEMLAB_LINE, a, b, 0, GEMLAB_EVERYTHING, 0, 0, 1);
+    list("marks 2.5 from (4,1.5)", GEMLAB_CIRCLE, centre, b, 2.5, GEMLAB_EVERYTHING, 0, 0, 4);
+    list("marks on a plane, in 2D", GEMLAB_PLANE_XY, a, b, 0, GEMLAB_EVERYTHING, 0, 0, 4);
+}
+
+/* A full library, whose rows are written here and not by insertion: every mark lies at (1000,0), each in a container of its own. */
+#define FULL 65536
+static uint64_t full_keys[FULL], full_ids[FULL], full_list[FULL];
+static double full_xs[FULL], full_ys[FULL], full_zs[FULL];
+
+static void full(void)
+{
+    const double low[2] = {0, 0}, high[2] = {8, 4};
+    uint64_t count = 0, refusal;
+
+    gemlab_grid_search_new(low, 2, high, 2, 1, 512, 0, 0, 1, 0,
+                           sheet_numbers, GEMLAB_SHEET_NUMBERS, sheet_floats, GEMLAB_SHEET_FLOATS);
+    for (uint64_t i = 0; i < FULL; i++) {
+        full_keys[i] = i;
+        full_ids[i] = i * 40503 % FULL;
+        full_xs[i] = 1000;
+    }
+    refusal = gemlab_grid_search_list(sheet_numbers, GEMLAB_SHEET_NUMBERS, sheet_floats, GEMLAB_SHEET_FLOATS,
+                                      full_keys, FULL, full_ids, FULL, full_xs, FULL, full_ys, FULL, full_zs, FULL, FULL,
+                                      GEMLAB_CIRCLE, low, 2, low, 2, 1000, GEMLAB_EVERYTHING, 0, 0, 0,
+                                      full_list, FULL - 1, &count);
+    printf("marks in a full library, in a list that is one short: refused %" PRIu64 "\n", refusal);
+    gemlab_grid_search_list(sheet_numbers, GEMLAB_SHEET_NUMBERS, sheet_floats, GEMLAB_SHEET_FLOATS,
+                            full_keys, FULL, full_ids, FULL, full_xs, FULL, full_ys, FULL, full_zs, FULL, FULL,
+                            GEMLAB_CIRCLE, low, 2, low, 2, 1000, GEMLAB_EVERYTHING, 0, 0, 0,
+                            full_list, FULL, &count);
+    printf("marks in a full library: %" PRIu64 ", from %" PRIu64 " to %" PRIu64 "\n", count, full_list[0], full_list[FULL - 1]);
+}
+
 int main(void)
 {
     distances();
     sheets();
     libraries();
+    lists();
+    full();
     return 0;
 }

@@ -212,6 +212,59 @@ uint64_t gemlab_grid_search_search(const uint64_t *numbers, size_t numbers_len,
                                    uint64_t *found,
                                    uint64_t *id);
 
+/*
+ * The marks on a place: the ids of the rows that count, ascending and once each, at the front of list,
+ * and *count becomes how many they are. The list beyond them is untouched.
+ *
+ * place says what the place is, and number is its radius or coordinate:
+ *
+ *     GEMLAB_LINE      0  the line through a and b
+ *     GEMLAB_CIRCLE    1  the circle of centre a and radius number, in 2D
+ *     GEMLAB_CYLINDER  2  the cylinder of radius number whose axis goes through a and b, in 3D
+ *     GEMLAB_PLANE_XY  3  the plane z = number, in 3D
+ *     GEMLAB_PLANE_YZ  4  the plane x = number, in 3D
+ *     GEMLAB_PLANE_XZ  5  the plane y = number, in 3D
+ *
+ * A position that the place does not have, and a line's number, are not read; an empty list will do. A
+ * radius may be negative.
+ *
+ * filter says which of the marks are kept: GEMLAB_EVERYTHING (0), where axis, low and high are not
+ * read, or GEMLAB_RANGE (1): those whose coordinate on the axis (0, 1 or 2) is at least low and at most
+ * high. A range with low above high keeps none.
+ *
+ * A row counts where the centre of its container is within radius + tol_dist of the place (for a
+ * circle or a cylinder by the signed distance, so that every container inside does), its own point is
+ * within tol_dist, and the filter keeps that point.
+ * Refusals: 24, 13, 16 (a place or a filter that is not there, or not in this dimension), 2, 3 (of the
+ * positions, the radius or coordinate, and the ends of a range), 15 (where a row is in use), 14 (the
+ * ids are more than list_len).
+ */
+#define GEMLAB_LINE 0
+#define GEMLAB_CIRCLE 1
+#define GEMLAB_CYLINDER 2
+#define GEMLAB_PLANE_XY 3
+#define GEMLAB_PLANE_YZ 4
+#define GEMLAB_PLANE_XZ 5
+
+#define GEMLAB_EVERYTHING 0
+#define GEMLAB_RANGE 1
+
+uint64_t gemlab_grid_search_list(const uint64_t *numbers, size_t numbers_len,
+                                 const double *floats, size_t floats_len,
+                                 const uint64_t *keys, size_t keys_len,
+                                 const uint64_t *ids, size_t ids_len,
+                                 const double *xs, size_t xs_len,
+                                 const double *ys, size_t ys_len,
+                                 const double *zs, size_t zs_len,
+                                 uint64_t used,
+                                 uint64_t place,
+                                 const double *a, size_t a_len,
+                                 const double *b, size_t b_len,
+                                 double number,
+                                 uint64_t filter, uint64_t axis, double low, double high,
+                                 uint64_t *list, size_t list_len,
+                                 uint64_t *count);
+
 #ifdef __cplusplus
 }
 #endif

@@ -94,6 +94,11 @@ pub mod util {
                 rows
             }
 
+            /// The private method `update_or_insert`: an entry in any container.
+            pub fn put_row(&mut self, key: usize, id: usize, x: &[f64]) {
+                self.update_or_insert(key, id, x);
+            }
+
             /// The private method `calc_container_key`.
             pub fn key_of(&self, x: &[f64]) -> Option<usize> {
                 self.calc_container_key(x)

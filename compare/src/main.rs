@@ -5,6 +5,7 @@
 
 mod floats;
 mod geometry;
+mod listing;
 mod near;
 mod random;
 mod rows;
@@ -24,6 +25,8 @@ const PARTS: &[(&str, fn(&mut Tally))] = &[
     ("bench-sheet", sheet::measure),
     ("rows", rows::compare),
     ("bench-rows", rows::measure),
+    ("listing", listing::compare),
+    ("bench-listing", listing::measure),
 ];
 
 fn main() -> ExitCode {

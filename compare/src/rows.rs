@@ -77,8 +77,8 @@ const CALLS: usize = 10_000_000;
 const CALLS_IN_A_RUN: usize = 400;
 
 /// The largest magnitude of a coordinate, and the most rows.
-const LIMIT: f64 = 1048576.0;
-const MOST_ROWS: usize = 65536;
+pub(crate) const LIMIT: f64 = 1048576.0;
+pub(crate) const MOST_ROWS: usize = 65536;
 
 /// What a search's results hold before a call.
 const FOUND: u64 = 0x1234_5678_9abc_def0;
@@ -86,15 +86,15 @@ const ID: u64 = 0x0fed_cba9_8765_4321;
 
 /// What is lent: a sheet's two lists, the five lists of a library and its used count.
 #[derive(Clone, Debug)]
-struct Lent {
-    numbers: Vec<u64>,
-    floats: Vec<f64>,
-    keys: Vec<u64>,
-    ids: Vec<u64>,
-    xs: Vec<f64>,
-    ys: Vec<f64>,
-    zs: Vec<f64>,
-    used: u64,
+pub(crate) struct Lent {
+    pub(crate) numbers: Vec<u64>,
+    pub(crate) floats: Vec<f64>,
+    pub(crate) keys: Vec<u64>,
+    pub(crate) ids: Vec<u64>,
+    pub(crate) xs: Vec<f64>,
+    pub(crate) ys: Vec<f64>,
+    pub(crate) zs: Vec<f64>,
+    pub(crate) used: u64,
 }
 
 fn all_same(a: &[f64], b: &[f64]) -> bool {
@@ -102,7 +102,7 @@ fn all_same(a: &[f64], b: &[f64]) -> bool {
 }
 
 impl Lent {
-    fn insert(&mut self, id: u64, x: &[f64]) -> u64 {
+    pub(crate) fn insert(&mut self, id: u64, x: &[f64]) -> u64 {
         // SAFETY: each pointer is a vector's or a field's, which is aligned and not null, with its length; the written ones are apart.
         unsafe {
             gemlab_grid_search_insert(
@@ -129,7 +129,7 @@ impl Lent {
     }
 
     /// The number, and what the two results hold after the call.
-    fn search(&self, x: &[f64]) -> (u64, u64, u64) {
+    pub(crate) fn search(&self, x: &[f64]) -> (u64, u64, u64) {
         let (mut found, mut id) = (FOUND, ID);
         // SAFETY: as above.
         let number = unsafe {
@@ -159,7 +159,7 @@ impl Lent {
     }
 
     /// Every list and the count, bit for bit.
-    fn same(&self, other: &Lent) -> bool {
+    pub(crate) fn same(&self, other: &Lent) -> bool {
         self.numbers == other.numbers
             && all_same(&self.floats, &other.floats)
             && self.keys == other.keys
@@ -213,17 +213,17 @@ impl Lent {
 
 /// Settings of a sheet.
 #[derive(Clone, Debug)]
-struct Settings {
-    xmin: Vec<f64>,
-    xmax: Vec<f64>,
-    ndiv: Option<usize>,
-    tolerance: Option<f64>,
-    border_tol: Option<f64>,
+pub(crate) struct Settings {
+    pub(crate) xmin: Vec<f64>,
+    pub(crate) xmax: Vec<f64>,
+    pub(crate) ndiv: Option<usize>,
+    pub(crate) tolerance: Option<f64>,
+    pub(crate) border_tol: Option<f64>,
 }
 
 impl Settings {
     /// A sheet and an empty library with `space` rows of any content, and gemlab's.
-    fn make(&self, space: usize, r: &mut Random) -> Option<World> {
+    pub(crate) fn make(&self, space: usize, r: &mut Random) -> Option<World> {
         let rust = GridSearch::new(&self.xmin, &self.xmax, self.ndiv, self.tolerance, self.border_tol).ok()?;
         let mut numbers = vec![0; 8];
         let mut floats = vec![0.0; 17];
@@ -264,16 +264,16 @@ impl Settings {
 }
 
 /// A library beside gemlab's, and the rows that both are to have.
-struct World {
-    rust: GridSearch,
-    fields: SheetFields,
-    lent: Lent,
-    before: Lent,
-    rows: BTreeMap<(u64, u64), [f64; 3]>,
+pub(crate) struct World {
+    pub(crate) rust: GridSearch,
+    pub(crate) fields: SheetFields,
+    pub(crate) lent: Lent,
+    pub(crate) before: Lent,
+    pub(crate) rows: BTreeMap<(u64, u64), [f64; 3]>,
 }
 
 impl World {
-    fn ndim(&self) -> usize {
+    pub(crate) fn ndim(&self) -> usize {
         self.fields.ndim
     }
 
@@ -308,7 +308,7 @@ impl World {
         points
     }
 
-    fn insert(&mut self, id: u64, x: &[f64], t: &mut Tally, met: &mut BTreeSet<u64>) {
+    pub(crate) fn insert(&mut self, id: u64, x: &[f64], t: &mut Tally, met: &mut BTreeSet<u64>) {
         self.before.copy_from(&self.lent);
         let number = self.lent.insert(id, x);
         let points = self.points(x);
@@ -356,7 +356,7 @@ impl World {
             && all_same(&l.floats, &b.floats)
     }
 
-    fn search(&mut self, x: &[f64], t: &mut Tally, met: &mut BTreeSet<u64>) {
+    pub(crate) fn search(&mut self, x: &[f64], t: &mut Tally, met: &mut BTreeSet<u64>) {
         let (number, found, id) = self.lent.search(x);
         if let Some(expected) = self.position_fault(x, &[x.to_vec()]) {
             met.insert(expected);
@@ -395,13 +395,13 @@ impl World {
 }
 
 /// Sheets, positions and ids of all kinds.
-struct Source {
-    r: Random,
-    wild: Vec<f64>,
+pub(crate) struct Source {
+    pub(crate) r: Random,
+    pub(crate) wild: Vec<f64>,
 }
 
 impl Source {
-    fn new(seed: u64) -> Self {
+    pub(crate) fn new(seed: u64) -> Self {
         let mut wild = special();
         for x in [LIMIT, -LIMIT] {
             wild.extend(around(x));
@@ -409,7 +409,7 @@ impl Source {
         Source { r: Random::new(seed), wild }
     }
 
-    fn settings(&mut self) -> Settings {
+    pub(crate) fn settings(&mut self) -> Settings {
         let ndim = 2 + self.r.below(2) as usize;
         let first = match self.r.below(4) {
             0 => 1.0 + self.r.below(16) as f64,
@@ -458,7 +458,7 @@ impl Source {
         Settings { xmin, xmax, ndiv, tolerance, border_tol }
     }
 
-    fn space(&mut self) -> usize {
+    pub(crate) fn space(&mut self) -> usize {
         match self.r.below(4) {
             0 => self.r.below(5) as usize,
             1 => self.r.below(17) as usize,
@@ -466,7 +466,7 @@ impl Source {
         }
     }
 
-    fn id(&mut self) -> u64 {
+    pub(crate) fn id(&mut self) -> u64 {
         match self.r.below(8) {
             0 => self.r.next(),
             1 => u64::MAX - self.r.below(2),
@@ -501,7 +501,7 @@ impl Source {
         }
     }
 
-    fn position(&mut self, w: &World) -> Vec<f64> {
+    pub(crate) fn position(&mut self, w: &World) -> Vec<f64> {
         let mark = if w.rows.is_empty() {
             None
         } else {

@@ -1,2 +1,3 @@
 -- Laws of the answers that are told to C.
 mod Libraries
+mod Listings

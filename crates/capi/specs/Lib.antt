@@ -3,3 +3,4 @@ pub mod Answers
 pub mod Sheets
 pub mod SheetLaws
 pub mod Libraries
+pub mod Lists

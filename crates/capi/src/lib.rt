@@ -2,4 +2,5 @@
 // means to its caller; each contract says that the number returned and everything lent are those of the call's definition.
 mod distances;
 mod library;
+mod lists;
 mod sheet;

@@ -1,0 +1,715 @@
+//! Module 8 beside gemlab's six `search_on_..`: random places and filters on random libraries, containers at the edge of the
+//! radius test, long lists, and what a listing leaves in memory. And demand 3 as a test: the near and listed marks of a
+//! library against those of libraries that have one mark each.
+
+use crate::near::{around, down, up};
+use crate::random::Random;
+use crate::rows::{Lent, Settings, Source, World, LIMIT, MOST_ROWS};
+use crate::tally::Tally;
+use gemlab::util::GridSearch;
+use std::collections::{BTreeMap, BTreeSet, HashSet};
+use std::hint::black_box;
+use std::time::Instant;
+
+extern "C" {
+    fn gemlab_grid_search_list(
+        numbers: *const u64,
+        numbers_len: usize,
+        floats: *const f64,
+        floats_len: usize,
+        keys: *const u64,
+        keys_len: usize,
+        ids: *const u64,
+        ids_len: usize,
+        xs: *const f64,
+        xs_len: usize,
+        ys: *const f64,
+        ys_len: usize,
+        zs: *const f64,
+        zs_len: usize,
+        used: u64,
+        place: u64,
+        a: *const f64,
+        a_len: usize,
+        b: *const f64,
+        b_len: usize,
+        number: f64,
+        filter: u64,
+        axis: u64,
+        low: f64,
+        high: f64,
+        list: *mut u64,
+        list_len: usize,
+        count: *mut u64,
+    ) -> u64;
+}
+
+/// Random listings, and how many on one library.
+const CALLS: usize = 1_000_000;
+const CALLS_IN_A_RUN: usize = 100;
+
+/// Random lists of calls whose outcome is compared with that of single marks.
+const STORIES: usize = 2_000;
+
+/// What the list and the count hold before a call.
+const ENTRY: u64 = 0x1234_5678_9abc_def0;
+const COUNT: u64 = 0x0fed_cba9_8765_4321;
+
+const LINE: u64 = 0;
+const CIRCLE: u64 = 1;
+const CYLINDER: u64 = 2;
+const PLANE_XY: u64 = 3;
+const PLANE_YZ: u64 = 4;
+const PLANE_XZ: u64 = 5;
+
+/// A place and a filter, as the C interface has them.
+#[derive(Clone, Debug)]
+struct Asked {
+    place: u64,
+    a: Vec<f64>,
+    b: Vec<f64>,
+    number: f64,
+    filter: u64,
+    axis: u64,
+    low: f64,
+    high: f64,
+}
+
+impl Asked {
+    fn new(place: u64, a: &[f64], b: &[f64], number: f64) -> Self {
+        Asked { place, a: a.to_vec(), b: b.to_vec(), number, filter: 0, axis: 9, low: f64::NAN, high: f64::NAN }
+    }
+
+    fn keeps(&self, x: &[f64]) -> bool {
+        self.filter == 0 || (self.low <= x[self.axis as usize] && x[self.axis as usize] <= self.high)
+    }
+
+    /// What gemlab answers: the ids, or that the ends are too close.
+    fn rust(&self, s: &GridSearch) -> Result<HashSet<usize>, &'static str> {
+        let keep = |x: &[f64]| self.keeps(x);
+        match self.place {
+            LINE => s.search_on_line(&self.a, &self.b, keep),
+            CIRCLE => s.search_on_circle(&self.a, self.number, keep),
+            CYLINDER => s.search_on_cylinder(&self.a, &self.b, self.number, keep),
+            PLANE_XY => s.search_on_plane_xy(self.number, keep),
+            PLANE_YZ => s.search_on_plane_yz(self.number, keep),
+            PLANE_XZ => s.search_on_plane_xz(self.number, keep),
+            _ => Err("no place"),
+        }
+    }
+
+    /// 16, 2 or 3: what document 01 refuses before it looks at rows.
+    fn fault(&self, ndim: usize) -> Option<u64> {
+        let fits = match self.place {
+            LINE => true,
+            CIRCLE => ndim == 2,
+            CYLINDER | PLANE_XY | PLANE_YZ | PLANE_XZ => ndim == 3,
+            _ => false,
+        };
+        if !fits || self.filter > 1 || (self.filter == 1 && self.axis >= ndim as u64) {
+            return Some(16);
+        }
+        let mut lengths = Vec::new();
+        let mut floats = Vec::new();
+        match self.place {
+            LINE | CYLINDER => {
+                lengths.extend([self.a.len(), self.b.len()]);
+                floats.extend(self.a.iter().chain(&self.b));
+            }
+            CIRCLE => {
+                lengths.push(self.a.len());
+                floats.extend(&self.a);
+            }
+            _ => {}
+        }
+        if lengths.iter().any(|n| *n != ndim) {
+            return Some(2);
+        }
+        if self.place != LINE {
+            floats.push(&self.number);
+        }
+        if self.filter == 1 {
+            floats.extend([&self.low, &self.high]);
+        }
+        floats.iter().any(|x| !(x.abs() <= LIMIT)).then_some(3)
+    }
+}
+
+/// The number, the count after the call, and the list, of which `room` entries are lent.
+fn list(lent: &Lent, asked: &Asked, room: usize) -> (u64, u64, Vec<u64>) {
+    let mut out = vec![ENTRY; room + 1];
+    let mut count = COUNT;
+    // SAFETY: each pointer is a vector's or a local's, which is aligned and not null, with its length; the written ones are apart.
+    let number = unsafe {
+        gemlab_grid_search_list(
+            lent.numbers.as_ptr(),
+            lent.numbers.len(),
+            lent.floats.as_ptr(),
+            lent.floats.len(),
+            lent.keys.as_ptr(),
+            lent.keys.len(),
+            lent.ids.as_ptr(),
+            lent.ids.len(),
+            lent.xs.as_ptr(),
+            lent.xs.len(),
+            lent.ys.as_ptr(),
+            lent.ys.len(),
+            lent.zs.as_ptr(),
+            lent.zs.len(),
+            lent.used,
+            asked.place,
+            asked.a.as_ptr(),
+            asked.a.len(),
+            asked.b.as_ptr(),
+            asked.b.len(),
+            asked.number,
+            asked.filter,
+            asked.axis,
+            asked.low,
+            asked.high,
+            out.as_mut_ptr(),
+            room,
+            &mut count,
+        )
+    };
+    (number, count, out)
+}
+
+/// One listing beside gemlab's, with lists of several lengths.
+fn listing(lent: &Lent, rust: &GridSearch, ndim: usize, asked: &Asked, t: &mut Tally, met: &mut BTreeSet<u64>) {
+    let what = |room: usize| format!("{asked:?} with room for {room} in {lent:?}");
+    let refused = |number: u64, room: usize, t: &mut Tally| {
+        t.equal(list(lent, asked, room), (number, COUNT, vec![ENTRY; room + 1]), || what(room));
+    };
+    if let Some(number) = asked.fault(ndim) {
+        met.insert(number);
+        refused(number, 3, t);
+        return;
+    }
+    match asked.rust(rust) {
+        Err(_) => {
+            // too close, which gemlab says only where it has a container
+            met.insert(15);
+            refused(15, 0, t);
+            refused(15, 5, t);
+        }
+        Ok(theirs) => {
+            let mut ids: Vec<u64> = theirs.into_iter().map(|id| id as u64).collect();
+            ids.sort();
+            let n = ids.len();
+            met.insert(0);
+            for room in [n, n + 1, n + 3] {
+                let mut expected = ids.clone();
+                expected.resize(room + 1, ENTRY);
+                t.equal(list(lent, asked, room), (0, n as u64, expected), || what(room));
+            }
+            if n > 0 {
+                met.insert(14);
+                refused(14, n - 1, t);
+                refused(14, 0, t);
+            }
+        }
+    }
+}
+
+/// Places and filters of all kinds, most of them by a mark.
+struct Places {
+    r: Random,
+}
+
+impl Places {
+    fn direction(&mut self, ndim: usize) -> Vec<f64> {
+        match self.r.below(3) {
+            0 => {
+                let axis = self.r.below(ndim as u64) as usize;
+                (0..ndim).map(|i| if i == axis { 1.0 } else { 0.0 }).collect()
+            }
+            1 => (0..ndim).map(|_| self.r.below(3) as f64 - 1.0).collect(),
+            _ => (0..ndim).map(|_| self.r.between(-1.0, 1.0)).collect(),
+        }
+    }
+
+    /// How far off a mark: within the near distance, at its end, or beyond.
+    fn off(&mut self, tol: f64) -> f64 {
+        let d = match self.r.below(4) {
+            0 => 0.0,
+            1 => tol,
+            2 => tol * self.r.between(0.0, 2.0),
+            _ => tol * *self.r.pick(&[0.5, 0.7071067811865476, 0.5773502691896258, 1.0000001, 0.9999999]),
+        };
+        let d = *self.r.pick(&around(d));
+        if self.r.below(2) == 0 {
+            d
+        } else {
+            -d
+        }
+    }
+
+    fn wild(&mut self, x: f64) -> f64 {
+        match self.r.below(60) {
+            0 => *self.r.pick(&[f64::NAN, f64::INFINITY, -f64::INFINITY, up(LIMIT), -up(LIMIT)]),
+            1 => *self.r.pick(&[LIMIT, -LIMIT, 0.0, -0.0]),
+            _ => x,
+        }
+    }
+
+    fn asked(&mut self, w: &World) -> Asked {
+        let f = &w.fields;
+        let ndim = f.ndim;
+        let mark: Vec<f64> = if w.rows.is_empty() || self.r.below(8) == 0 {
+            (0..ndim).map(|i| self.r.between(f.xmin[i], f.xmax[i])).collect()
+        } else {
+            let n = self.r.below(w.rows.len() as u64) as usize;
+            w.rows.values().nth(n).unwrap()[..ndim].to_vec()
+        };
+        let place = match self.r.below(20) {
+            0 => self.r.below(8),
+            1 => u64::MAX,
+            _ if ndim == 2 => self.r.below(2),
+            _ => *self.r.pick(&[LINE, LINE, CYLINDER, CYLINDER, PLANE_XY, PLANE_YZ, PLANE_XZ]),
+        };
+        let n = self.direction(ndim);
+        let scale = *self.r.pick(&[1.0, f.side_length, f.side_length * 10.0, 1e-3]);
+        let off = self.off(f.tol_dist);
+        // a point off the mark, along one axis
+        let axis = self.r.below(ndim as u64) as usize;
+        let mut through = mark.clone();
+        through[axis] += off;
+        let (back, ahead) = (self.r.between(0.0, 3.0), self.r.between(0.0, 3.0));
+        let mut a: Vec<f64> = through.iter().zip(&n).map(|(x, d)| x - d * scale * back).collect();
+        let mut b: Vec<f64> = through.iter().zip(&n).map(|(x, d)| x + d * scale * ahead).collect();
+        if self.r.below(20) == 0 {
+            b = a.clone();
+            if self.r.below(2) == 0 {
+                let gap = *self.r.pick(&[26, 25, 24]);
+                b[axis] = a[axis] + (0.5f64).powi(gap);
+            }
+        }
+        let mut number = match place {
+            CIRCLE => {
+                let d = gemlab::geometry::point_point_distance(&a, &mark).unwrap_or(0.0);
+                d + self.off(f.tol_dist)
+            }
+            CYLINDER => {
+                let side = self.direction(ndim);
+                let r = self.r.between(0.0, 2.0) * scale;
+                for i in 0..ndim {
+                    a[i] += side[i] * r;
+                    b[i] += side[i] * r;
+                }
+                let d = gemlab::geometry::point_line_distance(&a, &b, &mark).unwrap_or(0.0);
+                d + self.off(f.tol_dist)
+            }
+            PLANE_XY => mark[ndim - 1] + off,
+            PLANE_YZ => mark[0] + off,
+            PLANE_XZ => mark[1] + off,
+            _ => f64::NAN,
+        };
+        if self.r.below(20) == 0 {
+            number = -number;
+        }
+        number = self.wild(number);
+        for x in a.iter_mut().chain(&mut b) {
+            *x = self.wild(*x);
+        }
+        if self.r.below(40) == 0 {
+            a.truncate(self.r.below(4) as usize);
+        }
+        if self.r.below(40) == 0 {
+            b.push(0.0);
+        }
+        let mut asked = Asked::new(place, &a, &b, number);
+        if self.r.below(3) == 0 {
+            asked.filter = 1;
+            asked.axis = self.r.below(ndim as u64);
+            let at = mark[asked.axis as usize];
+            let (low, high) = match self.r.below(4) {
+                0 => (*self.r.pick(&around(at)), *self.r.pick(&around(at))),
+                1 => (at - self.r.between(-1.0, 3.0), at + self.r.between(-1.0, 3.0)),
+                2 => (-LIMIT, LIMIT),
+                _ => (at, at),
+            };
+            asked.low = self.wild(low);
+            asked.high = self.wild(high);
+            match self.r.below(40) {
+                0 => asked.axis = ndim as u64 + self.r.below(2),
+                1 => asked.axis = u64::MAX,
+                2 => asked.filter = 2 + self.r.below(2),
+                _ => {}
+            }
+        }
+        asked
+    }
+}
+
+fn runs(t: &mut Tally, met: &mut BTreeSet<u64>) {
+    let mut s = Source::new(21);
+    let mut p = Places { r: Random::new(22) };
+    let mut calls = 0;
+    while calls < CALLS {
+        let settings = s.settings();
+        let Some(mut w) = settings.make(64, &mut s.r) else { continue };
+        let marks = s.r.below(20);
+        for _ in 0..marks {
+            let (id, x) = (s.id(), s.position(&w));
+            w.insert(id, &x, &mut Tally::new("listing"), &mut BTreeSet::new());
+        }
+        for _ in 0..CALLS_IN_A_RUN {
+            let asked = p.asked(&w);
+            listing(&w.lent, &w.rust, w.ndim(), &asked, t, met);
+        }
+        calls += CALLS_IN_A_RUN;
+    }
+}
+
+/// A sheet of `ndiv` divisions with no rows, and gemlab's.
+fn world(ndim: usize, ndiv: usize, space: usize, r: &mut Random) -> World {
+    let settings =
+        Settings { xmin: vec![0.0; ndim], xmax: vec![8.0; ndim], ndiv: Some(ndiv), tolerance: Some(1.0 / 512.0), border_tol: Some(0.0) };
+    settings.make(space, r).unwrap()
+}
+
+/// Rows of any container, written into both libraries.
+fn write_rows(w: &mut World, rows: &BTreeMap<(u64, u64), [f64; 3]>) {
+    let ndim = w.ndim();
+    for (i, ((key, id), at)) in rows.iter().enumerate() {
+        w.lent.keys[i] = *key;
+        w.lent.ids[i] = *id;
+        w.lent.xs[i] = at[0];
+        w.lent.ys[i] = at[1];
+        w.lent.zs[i] = if ndim == 2 { 0.0 } else { at[2] };
+        w.rust.put_row(*key as usize, *id as usize, &at[..ndim]);
+    }
+    w.lent.used = rows.len() as u64;
+    w.rows = rows.clone();
+}
+
+/// One row on the place, in a container whose centre is at the edge of the radius test.
+fn edges(t: &mut Tally, met: &mut BTreeSet<u64>) {
+    let mut r = Random::new(23);
+    for turn in 0..20_000 {
+        let ndim = 2 + turn % 2;
+        let mut w = world(ndim, 2 + r.below(30) as usize, 1, &mut r);
+        let f = w.fields.clone();
+        let key = r.below(f.ndiv.iter().product::<usize>() as u64);
+        let center = w.rust.center_of(key as usize);
+        let bound = f.radius + f.tol_dist;
+        let nudge = |x: f64, by: i64| (0..by.abs()).fold(x, |x, _| if by < 0 { down(x) } else { up(x) });
+        let by = r.below(9) as i64 - 4;
+        let axis = r.below(ndim as u64) as usize;
+        let other = (axis + 1) % ndim;
+        let side = if r.below(2) == 0 { 1.0 } else { -1.0 };
+        // where the place crosses the axis through the centre
+        let v = nudge(center[axis] + side * bound, by);
+        let mut at = center.clone();
+        at[axis] = v;
+        let mut asked = match (ndim, r.below(3)) {
+            (3, 0) => Asked::new([PLANE_YZ, PLANE_XZ, PLANE_XY][axis], &[], &[], v),
+            (_, 1) => {
+                let mut b = at.clone();
+                b[other] += 1.0 + r.below(4) as f64;
+                Asked::new(LINE, &at, &b, f64::NAN)
+            }
+            _ => {
+                // round a point further out, or in, so that the surface crosses at v
+                let radius = r.between(0.5, 4.0);
+                let mut c = at.clone();
+                c[axis] += side * radius;
+                let radius = nudge(radius, r.below(3) as i64 - 1);
+                if ndim == 2 {
+                    Asked::new(CIRCLE, &c, &[], radius)
+                } else {
+                    let mut d = c.clone();
+                    d[other] += 2.0;
+                    Asked::new(CYLINDER, &c, &d, radius)
+                }
+            }
+        };
+        if r.below(4) == 0 {
+            asked.filter = 1;
+            asked.axis = axis as u64;
+            (asked.low, asked.high) = *r.pick(&[(v, v), (up(v), v), (v, down(v)), (down(v), up(v)), (up(v), up(v))]);
+        }
+        let mut point = [0.0; 3];
+        point[..ndim].copy_from_slice(&at);
+        write_rows(&mut w, &BTreeMap::from([((key, r.next()), point)]));
+        listing(&w.lent, &w.rust, ndim, &asked, t, met);
+    }
+}
+
+/// Libraries with more ids than fit a small buffer, each id in several rows, on places that all rows lie on.
+fn many(t: &mut Tally, met: &mut BTreeSet<u64>) {
+    let mut r = Random::new(24);
+    for rows in [1, 2, 1023, 1024, 1025, 1026, 5000, MOST_ROWS - 1, MOST_ROWS] {
+        for ndim in [2, 3] {
+            for ids in [0, 1, 2, 100, rows as u64 / 2 + 1, rows as u64 * 4] {
+                let mut w = world(ndim, if ndim == 2 { 300 } else { 45 }, rows, &mut r);
+                let containers = w.fields.ndiv.iter().product::<usize>() as u64;
+                let mut all = BTreeMap::new();
+                while all.len() < rows {
+                    let id = if ids == 0 { r.next() } else { r.below(ids) };
+                    // most rows lie at (1000, 0, 0)
+                    let far = if r.below(10) == 0 { 5.0 } else { 1000.0 };
+                    all.insert((r.below(containers), id), [far, 0.0, 0.0]);
+                }
+                write_rows(&mut w, &all);
+                let asked = match ndim {
+                    2 => Asked::new(CIRCLE, &[0.0, 0.0], &[], 1000.0),
+                    _ => Asked::new(CYLINDER, &[0.0, 0.0, 0.0], &[0.0, 0.0, 1.0], 1000.0),
+                };
+                listing(&w.lent, &w.rust, ndim, &asked, t, met);
+            }
+        }
+    }
+}
+
+/// Document 01's lines on listings, on sheet S.
+fn examples(t: &mut Tally, met: &mut BTreeSet<u64>) {
+    let mut r = Random::new(25);
+    let settings = Settings {
+        xmin: vec![0.0, 0.0],
+        xmax: vec![8.0, 4.0],
+        ndiv: Some(8),
+        tolerance: Some(1.0 / 512.0),
+        border_tol: Some(0.0),
+    };
+    let mut w = settings.make(8, &mut r).unwrap();
+    let ends = |gap: f64| Asked::new(LINE, &[1.0, 1.0], &[1.0 + gap, 1.0], f64::NAN);
+    let tiny = [ends(0.0), ends(1.0 / 67108864.0), ends(1.0 / 33554432.0)];
+    for asked in &tiny {
+        t.equal(list(&w.lent, asked, 2), (0, 0, vec![ENTRY; 3]), || format!("{asked:?} with no rows"));
+        listing(&w.lent, &w.rust, 2, asked, t, met);
+    }
+    t.equal(w.lent.insert(4, &[6.0, 3.0]), 0, || "insertion".to_string());
+    w.rust.insert(4, &[6.0, 3.0]).unwrap();
+    for (asked, number) in tiny.iter().zip([15, 15, 0]) {
+        t.equal(list(&w.lent, asked, 2).0, number, || format!("{asked:?} with a row"));
+        listing(&w.lent, &w.rust, 2, asked, t, met);
+    }
+    // a refusal is the first in the order 24, 13, 16, 2, 3, 15, 14
+    let mut bad = Asked::new(CYLINDER, &[0.0], &[f64::NAN], f64::NAN);
+    t.equal(list(&w.lent, &bad, 0).0, 16, || format!("{bad:?}"));
+    bad.place = LINE;
+    t.equal(list(&w.lent, &bad, 0).0, 2, || format!("{bad:?}"));
+    bad.a = vec![0.0, f64::NAN];
+    bad.b = vec![0.0, f64::NAN];
+    t.equal(list(&w.lent, &bad, 0).0, 3, || format!("{bad:?}"));
+    let mut damaged = w.lent.clone();
+    damaged.xs[0] = f64::NAN;
+    t.equal(list(&damaged, &bad, 0).0, 13, || format!("{bad:?} in {damaged:?}"));
+    damaged.keys.resize(MOST_ROWS + 1, 0);
+    t.equal(list(&damaged, &bad, 0).0, 24, || format!("{bad:?} in a list too long"));
+}
+
+/// The marks of one list of calls, and the accepted insertions of each.
+struct Story {
+    world: World,
+    marks: BTreeMap<u64, Vec<Vec<f64>>>,
+}
+
+/// Demand 3: a mark is near a position, or on a place, exactly where it is so in a library of the same space that has that
+/// mark's accepted insertions alone, each of which is accepted there.
+fn independence(t: &mut Tally) {
+    let mut s = Source::new(26);
+    let mut p = Places { r: Random::new(27) };
+    let mut told = 0;
+    let (mut near, mut listed) = (0, 0);
+    while told < STORIES {
+        let settings = s.settings();
+        let space = s.space();
+        let Some(world) = settings.make(space, &mut s.r) else { continue };
+        told += 1;
+        let mut story = Story { world, marks: BTreeMap::new() };
+        let calls = s.r.below(60);
+        for _ in 0..calls {
+            let w = &mut story.world;
+            let (id, x) = (s.id(), s.position(w));
+            match s.r.below(6) {
+                0 => {
+                    w.lent.search(&x);
+                }
+                1 => {
+                    list(&w.lent, &p.asked(w), 4);
+                }
+                _ => {
+                    let before = w.lent.clone();
+                    if w.lent.insert(id, &x) == 0 {
+                        story.marks.entry(id).or_default().push(x.clone());
+                        let at = [x[0], x[1], if x.len() == 2 { 0.0 } else { x[2] }];
+                        // the rows, for the places that are asked for
+                        w.rows.insert((w.rust.key_of(&x).unwrap_or(0) as u64, id), at);
+                    } else {
+                        t.check(w.lent.same(&before), || format!("a refused insertion of {id} at {x:?} changed {before:?}"));
+                    }
+                }
+            }
+        }
+        let alone: BTreeMap<u64, Lent> = story
+            .marks
+            .iter()
+            .map(|(id, history)| {
+                let mut lent = settings.make(space, &mut s.r).unwrap().lent;
+                for x in history {
+                    t.equal(lent.insert(*id, x), 0, || format!("insertion of {id} alone at {x:?}"));
+                }
+                (*id, lent)
+            })
+            .collect();
+        for _ in 0..20 {
+            let w = &story.world;
+            let x = s.position(w);
+            let (number, found, lowest) = w.lent.search(&x);
+            // the marks that are near by themselves
+            let mut by_itself = BTreeSet::new();
+            for (id, lent) in &alone {
+                let (n, f, i) = lent.search(&x);
+                t.equal(n, number, || format!("search at {x:?} with {id} alone"));
+                if n == 0 && f == 1 {
+                    t.equal(i, *id, || format!("search at {x:?} with {id} alone"));
+                    by_itself.insert(*id);
+                }
+            }
+            let expected = by_itself.first().copied();
+            let answer = (number == 0 && found == 1).then_some(lowest);
+            near += by_itself.len();
+            t.equal(answer, expected, || format!("search at {x:?} in {:?}", w.lent));
+
+            let asked = p.asked(w);
+            let all = list(&w.lent, &asked, space);
+            let here: BTreeSet<u64> = if all.0 == 0 { all.2[..all.1 as usize].iter().copied().collect() } else { BTreeSet::new() };
+            listed += here.len();
+            for (id, lent) in &alone {
+                let one = list(lent, &asked, space);
+                // 15 looks at the rows of every mark, so that it can stand in one of the two only
+                t.check(one.0 == all.0 || (one.0, all.0) == (0, 15), || format!("{asked:?} with {id} alone: {} and {}", one.0, all.0));
+                let is_listed = one.0 == 0 && one.1 == 1 && one.2[0] == *id;
+                t.equal(here.contains(id), is_listed, || format!("{asked:?}: {id} in {:?}", w.lent));
+            }
+            t.check(here.iter().all(|id| alone.contains_key(id)), || format!("{asked:?} lists {here:?}"));
+        }
+    }
+    t.check(near > STORIES && listed > STORIES, || format!("only {near} near and {listed} listed marks were met"));
+}
+
+pub fn compare(t: &mut Tally) {
+    let mut met = BTreeSet::new();
+    examples(t, &mut met);
+    runs(t, &mut met);
+    edges(t, &mut met);
+    many(t, &mut met);
+    independence(t);
+    let expected = BTreeSet::from([0, 2, 3, 14, 15, 16]);
+    t.check(met == expected, || format!("refusals met: {met:?}"));
+}
+
+/// Nanoseconds of a call: the best of several rounds.
+fn best(mut f: impl FnMut()) -> f64 {
+    let mut best = f64::INFINITY;
+    for _ in 0..7 {
+        let mut turns = 1;
+        loop {
+            let start = Instant::now();
+            for _ in 0..turns {
+                f();
+            }
+            let time = start.elapsed().as_nanos() as f64;
+            if time > 5e6 {
+                best = best.min(time / turns as f64);
+                break;
+            }
+            turns *= 2;
+        }
+    }
+    best
+}
+
+pub fn measure(_: &mut Tally) {
+    println!("{:>6} {:<10} {:>6} {:>12} {:>12} {:>7}", "rows", "place", "ids", "here ns", "gemlab ns", "ratio");
+    let mut r = Random::new(28);
+    for rows in [1000, 10_000, MOST_ROWS] {
+        for (name, ndim, asked) in [
+            ("line", 2, Asked::new(LINE, &[0.0, 0.5], &[1.0, 0.5], 0.0)),
+            ("line", 3, Asked::new(LINE, &[0.0, 0.5, 0.5], &[1.0, 0.5, 0.5], 0.0)),
+            ("circle", 2, Asked::new(CIRCLE, &[0.5, 0.5], &[], 0.25)),
+            ("cylinder", 3, Asked::new(CYLINDER, &[0.0, 0.5, 0.5], &[1.0, 0.5, 0.5], 0.25)),
+            ("plane_xy", 3, Asked::new(PLANE_XY, &[], &[], 0.5)),
+            ("plane_yz", 3, Asked::new(PLANE_YZ, &[], &[], 0.5)),
+            ("plane_xz", 3, Asked::new(PLANE_XZ, &[], &[], 0.5)),
+        ] {
+            for all_on in [false, true] {
+                let settings = Settings { xmin: vec![0.0; ndim], xmax: vec![1.0; ndim], ndiv: None, tolerance: None, border_tol: None };
+                let mut w = settings.make(rows, &mut r).unwrap();
+                let mut found = BTreeMap::new();
+                let mut id = 0;
+                while found.len() < rows {
+                    // the ids of a mesh: counted up, in no order of places
+                    let mut x: Vec<f64> = (0..ndim).map(|_| r.between(0.0, 1.0)).collect();
+                    if all_on {
+                        match (asked.place, ndim) {
+                            (LINE, _) => x[1..].fill(0.5),
+                            (CIRCLE, _) | (CYLINDER, _) => {
+                                let angle = r.between(0.0, 6.283185307179586);
+                                x[ndim - 2] = 0.5 + 0.25 * angle.cos();
+                                x[ndim - 1] = 0.5 + 0.25 * angle.sin();
+                            }
+                            (PLANE_XY, _) => x[2] = 0.5,
+                            (PLANE_YZ, _) => x[0] = 0.5,
+                            _ => x[1] = 0.5,
+                        }
+                    }
+                    let Some(key) = w.rust.key_of(&x) else { continue };
+                    let mut at = [0.0; 3];
+                    at[..ndim].copy_from_slice(&x);
+                    found.insert((key as u64, id), at);
+                    id += 1;
+                }
+                write_rows(&mut w, &found);
+                let n = asked.rust(&w.rust).unwrap().len();
+                let mut out = vec![0; n];
+                let mut count = 0;
+                let here = best(|| {
+                    let l = &w.lent;
+                    // SAFETY: as in `list`.
+                    let number = unsafe {
+                        gemlab_grid_search_list(
+                            l.numbers.as_ptr(),
+                            l.numbers.len(),
+                            l.floats.as_ptr(),
+                            l.floats.len(),
+                            l.keys.as_ptr(),
+                            l.keys.len(),
+                            l.ids.as_ptr(),
+                            l.ids.len(),
+                            l.xs.as_ptr(),
+                            l.xs.len(),
+                            l.ys.as_ptr(),
+                            l.ys.len(),
+                            l.zs.as_ptr(),
+                            l.zs.len(),
+                            l.used,
+                            asked.place,
+                            asked.a.as_ptr(),
+                            asked.a.len(),
+                            asked.b.as_ptr(),
+                            asked.b.len(),
+                            asked.number,
+                            0,
+                            0,
+                            0.0,
+                            0.0,
+                            out.as_mut_ptr(),
+                            n,
+                            &mut count,
+                        )
+                    };
+                    assert_eq!((number, count as usize), (0, n));
+                });
+                let there = best(|| {
+                    black_box(asked.rust(&w.rust).unwrap().len());
+                });
+                let name = format!("{name} {ndim}D");
+                println!("{rows:>6} {name:<11} {n:>6} {here:>12.0} {there:>12.0} {:>6.2}x", there / here);
+            }
+        }
+    }
+}
