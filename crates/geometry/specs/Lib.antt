@@ -3,4 +3,3 @@ pub mod Position
 pub mod Distances
 pub mod Cells
 pub mod Axes
-pub mod Examples

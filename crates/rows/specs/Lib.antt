@@ -2,4 +2,3 @@
 pub mod Library
 pub mod Insert
 pub mod Posts
-pub mod Examples

@@ -1,3 +1,2 @@
 -- The words of the contract of module 7.
 pub mod Search
-pub mod Examples
