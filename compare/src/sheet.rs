@@ -1,4 +1,4 @@
-//! Modules 3 to 5 beside gemlab's `GridSearch::new`.
+//! Modules 3 to 5 beside gemlab's `GridSearch::new`, and the keys and centres of containers beside its private methods.
 
 use crate::near::{around, special, up};
 use crate::random::Random;
@@ -25,6 +25,30 @@ extern "C" {
         floats: *mut f64,
         floats_len: usize,
     ) -> u64;
+    fn probe_container_key(
+        ndim: usize,
+        side_length: f64,
+        nx: u64,
+        ny: u64,
+        nz: u64,
+        xmin: *const f64,
+        xmin_len: usize,
+        x: *const f64,
+        x_len: usize,
+    ) -> u64;
+    fn probe_container_center(
+        ndim: usize,
+        side_length: f64,
+        nx: u64,
+        ny: u64,
+        nz: u64,
+        xmin: *const f64,
+        xmin_len: usize,
+        key: u64,
+        cx: &mut f64,
+        cy: &mut f64,
+        cz: &mut f64,
+    );
 }
 
 /// Random settings.
@@ -139,7 +163,8 @@ impl Call {
         })
     }
 
-    fn compare(&self, t: &mut Tally, met: &mut BTreeSet<u64>) {
+    /// The sheet that gemlab makes, where it is not turned away.
+    fn compare(&self, t: &mut Tally, met: &mut BTreeSet<u64>) -> Option<GridSearch> {
         let (number, numbers, floats) = self.ours();
         match self.expected() {
             Err(n) => {
@@ -147,6 +172,7 @@ impl Call {
                 t.equal(number, n, || format!("{self:?}"));
                 t.check(numbers.iter().all(|x| *x == NUMBER), || format!("{self:?}: numbers written by a refusal"));
                 t.check(floats.iter().all(|x| *x == FLOAT), || format!("{self:?}: floats written by a refusal"));
+                None
             }
             Ok(grid) => {
                 met.insert(0);
@@ -189,8 +215,107 @@ impl Call {
                 for i in 0..FLOATS {
                     t.float(floats[i], x[i], || format!("float {i} of {self:?}"));
                 }
+                Some(grid)
             }
         }
+    }
+}
+
+/// A sheet's containers, by its derived fields.
+struct Containers {
+    ndim: usize,
+    side: f64,
+    ndiv: [u64; 3],
+    xmin: Vec<f64>,
+    xmax: Vec<f64>,
+}
+
+impl Containers {
+    fn new(grid: &GridSearch) -> Self {
+        let f = grid.fields();
+        let third = if f.ndim == 2 { 1 } else { f.ndiv[2] as u64 };
+        let ndiv = [f.ndiv[0] as u64, f.ndiv[1] as u64, third];
+        Containers { ndim: f.ndim, side: f.side_length, ndiv, xmin: f.xmin, xmax: f.xmax }
+    }
+
+    /// A position within the sheet: anywhere, on an edge between containers or beside it, or at a corner.
+    fn position(&self, r: &mut Random) -> Vec<f64> {
+        (0..self.ndim)
+            .map(|i| {
+                let (a, b) = (self.xmin[i], self.xmax[i]);
+                let x = match r.below(4) {
+                    0 => *r.pick(&[a, b]),
+                    1 => r.between(a, b),
+                    _ => {
+                        let edge = a + r.below(self.ndiv[i] + 1) as f64 * self.side;
+                        *r.pick(&around(edge))
+                    }
+                };
+                x.clamp(a, b)
+            })
+            .collect()
+    }
+
+    fn key(&self, x: &[f64]) -> u64 {
+        let [nx, ny, nz] = self.ndiv;
+        // SAFETY: each pointer is a list's, which is aligned and not null, with its length.
+        unsafe {
+            probe_container_key(
+                self.ndim,
+                self.side,
+                nx,
+                ny,
+                nz,
+                self.xmin.as_ptr(),
+                self.xmin.len(),
+                x.as_ptr(),
+                x.len(),
+            )
+        }
+    }
+
+    fn center(&self, key: u64) -> [f64; 3] {
+        let [nx, ny, nz] = self.ndiv;
+        let [mut cx, mut cy, mut cz] = [FLOAT; 3];
+        // SAFETY: as above; the three results are apart.
+        unsafe {
+            probe_container_center(
+                self.ndim,
+                self.side,
+                nx,
+                ny,
+                nz,
+                self.xmin.as_ptr(),
+                self.xmin.len(),
+                key,
+                &mut cx,
+                &mut cy,
+                &mut cz,
+            );
+        }
+        [cx, cy, cz]
+    }
+
+    fn compare(&self, t: &mut Tally, grid: &GridSearch, r: &mut Random) {
+        let count = self.ndiv.iter().product::<u64>();
+        for _ in 0..2 {
+            let x = self.position(r);
+            // within the sheet: a key, unless a ratio exceeds its divisions, which gemlab lets pass
+            let exceeds = (0..self.ndim).any(|i| ((x[i] - self.xmin[i]) / self.side) as u64 > self.ndiv[i]);
+            let expected = if exceeds { u64::MAX - 1 } else { grid.key_of(&x).unwrap() as u64 };
+            t.equal(self.key(&x), expected, || format!("the key of {x:?} in {:?}", grid.fields()));
+            t.check(exceeds || expected < count, || format!("the key {expected} of {x:?} in {:?}", grid.fields()));
+        }
+        let key = match r.below(4) {
+            0 => count - 1,
+            _ => r.below(count),
+        };
+        let (ours, rust) = (self.center(key), grid.center_of(key as usize));
+        for i in 0..3 {
+            let there = if i < self.ndim { rust[i] } else { 0.0 };
+            t.float(ours[i], there, || format!("coordinate {i} of the centre of {key} in {:?}", grid.fields()));
+        }
+        t.equal(self.center(count), [FLOAT; 3], || format!("the centre past the last in {:?}", grid.fields()));
     }
 }
 
@@ -355,8 +480,11 @@ pub fn compare(t: &mut Tally) {
     examples(t);
     let mut s = Source::new(6);
     let mut met = BTreeSet::new();
+    let mut r = Random::new(8);
     for _ in 0..INPUTS {
-        s.call().compare(t, &mut met);
+        if let Some(grid) = s.call().compare(t, &mut met) {
+            Containers::new(&grid).compare(t, &grid, &mut r);
+        }
     }
     let all: BTreeSet<u64> = (0..=10).chain([13]).collect();
     t.equal(met, all, || "the answers met".to_string());

@@ -1,6 +1,7 @@
--- What the C interface adds to the definitions of the calls: an answer as a number and a value that is written.
+-- What the C interface adds to the definitions of the calls: an answer as a number and a value that is written, and a sheet in two lists.
 pub mod Answers
 pub mod Sheets
+-- Laws of these.
 pub mod SheetLaws
 pub mod Libraries
 pub mod Lists

@@ -7,7 +7,7 @@ use mathlib.Core.Logic.{_⊎_, inl, inr}
 use mathlib.Core.Bool.{Bool, true, false, _&&_, _||_, and-true}
 use mathlib.Core.List.{List, [], _∷_}
 use lib.Dec.{eqb}
-use lib.ListN.{length}
+use lib.ListN.{length, take}
 use lib.Ieee.{Float}
 use borrow.Author.Tests.{eqb-true, ne-eqb}
 use Rattle.basics.specs.Bools.{or-either, clash}
@@ -56,14 +56,17 @@ axis-last zero p h k = absurd (h refl)
 axis-last (suc zero) p h k = absurd (k refl)
 axis-last (suc (suc i)) p h k = refl
 
--- a test of each coordinate
-pub all-coords : (f : Float → Bool) (n : ℕ) (p : Position) → dimension n ≡ true → all f (coords n p) ≡ (f (p .x) && (f (p .y) && (eqb n 2 || f (p .z))))
+-- a test of each entry along the axes
+pub all-axes : {A : Type 0} (f : A → Bool) (n : ℕ) (x y z : A) → dimension n ≡ true → all f (take n (x ∷ y ∷ z ∷ [])) ≡ (f x && (f y && (eqb n 2 || f z)))
 unfolding all
-all-coords f n p h = go (two-or-three n h)
+all-axes f n x y z h = go (two-or-three n h)
   where
-    go : (n ≡ 2) ⊎ (n ≡ 3) → all f (coords n p) ≡ (f (p .x) && (f (p .y) && (eqb n 2 || f (p .z))))
+    go : (n ≡ 2) ⊎ (n ≡ 3) → all f (take n (x ∷ y ∷ z ∷ [])) ≡ (f x && (f y && (eqb n 2 || f z)))
     go (inl e) = rw (e, and-true)
     go (inr e) = rw (e, and-true)
+
+pub all-coords : (f : Float → Bool) (n : ℕ) (p : Position) → dimension n ≡ true → all f (coords n p) ≡ (f (p .x) && (f (p .y) && (eqb n 2 || f (p .z))))
+all-coords f n p h = all-axes f n (p .x) (p .y) (p .z) h
 
 -- a position made from a list of coordinates has these coordinates
 pub coords-of : (n : ℕ) (l : List Float) (p : Position) → dimension n ≡ true → length l ≡ n → p ≡ positionOf l → coords n p ≡ l

@@ -41,6 +41,21 @@ pub struct Pivot {
     pub k: u64,
 }
 
+// Whether there are from 1 to 1,024 divisions.
+fn is_division(n: u64) -> bool
+    ensures { λ r. ⌜ r ≡ division n ⌝ }
+{
+    (1 <= n) & (n <= 1024)
+}
+
+// Whether there are along each axis in use.
+pub fn divisions_ok(ndim: usize, ndiv: Divisions) -> bool
+    requires { ⌜ dimension ndim ≡ true ⌝ }
+    ensures { λ r. ⌜ r ≡ all division (counts ndim ndiv) ⌝ }
+{
+    is_division(ndiv.x) & (is_division(ndiv.y) & ((ndim == 2) | is_division(ndiv.z)))
+}
+
 // The longest axis so far, or this one where it is longer.
 fn longer(best: Longest, axis: usize, delta: f64) -> Longest
     ensures { λ r. ⌜ r ≡ longerOf best axis delta ⌝ }

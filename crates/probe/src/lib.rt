@@ -1,5 +1,6 @@
 // The functions that serve the public calls, for the comparison with the Rust. Nothing else is here.
 mod cells;
+mod containers;
 
 ghost use mathlib.Core.Path.{_≡_};
 ghost use lib.Ieee.{toUnsigned};
