@@ -146,8 +146,8 @@ changed-table s l c = table-write (effect s c (table l)) l
 
 module _ (s : GridSearch) (l : Library) (w : Whole s l) (c : Change) (q : fault (ownTests s l c) ≡ none) where
   pub changed-space : space (changed s l c) ≡ space l
-  unfolding changed roomy
-  changed-space = space-write (effect s c (table l)) l (w .even) (effect-room s l w c q)
+  unfolding changed
+  changed-space = space-write (effect s c (table l)) l s w (effect-room s l w c q)
 
   changed-used : changed s l c .used ≡ length (effect s c (table l))
   unfolding changed
