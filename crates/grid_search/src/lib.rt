@@ -104,7 +104,7 @@ fn in_use(ndim: usize, p: Position) -> Position
 }
 
 // The low corner moved outwards by the border.
-fn lowered(ndim: usize, border: f64, low: Position) -> Position
+pub fn lowered(ndim: usize, border: f64, low: Position) -> Position
     requires { ⌜ dimension ndim ≡ true ⌝ }
     ensures { λ r. ⌜ r ≡ positionOf (loweredOf border (coords ndim low)) ⌝ }
 {
@@ -120,7 +120,7 @@ fn lowered(ndim: usize, border: f64, low: Position) -> Position
 }
 
 // The high corner moved outwards by the border.
-fn raised(ndim: usize, border: f64, high: Position) -> Position
+pub fn raised(ndim: usize, border: f64, high: Position) -> Position
     requires { ⌜ dimension ndim ≡ true ⌝ }
     ensures { λ r. ⌜ r ≡ positionOf (raisedOf border (coords ndim high)) ⌝ }
 {
@@ -166,7 +166,7 @@ fn end_along(xmin: f64, side: f64, n: u64) -> f64
 }
 
 // The high corner of the containers, which cover the box.
-fn covered(ndim: usize, xmin: Position, side: f64, ndiv: Divisions) -> Position
+pub fn covered(ndim: usize, xmin: Position, side: f64, ndiv: Divisions) -> Position
     requires { ⌜ dimension ndim ≡ true ⌝ ∗ ⌜ all division (counts ndim ndiv) ≡ true ⌝ }
     ensures { λ r. ⌜ r ≡ positionOf (coveredOf side (coords ndim xmin) (counts ndim ndiv)) ⌝ }
 {
@@ -238,7 +238,7 @@ fn out_of_limits(ndim: usize, low: Position, high: Position, tolerance: f64, bor
 }
 
 // 7: the high corner is above the low one on every axis.
-fn is_above(ndim: usize, low: Position, high: Position) -> bool
+pub fn is_above(ndim: usize, low: Position, high: Position) -> bool
     requires { ⌜ dimension ndim ≡ true ⌝ }
     ensures { λ r. ⌜ r ≡ above (coords ndim low) (coords ndim high) ⌝ }
 {
