@@ -1,0 +1,23 @@
+-- `grid_cells::pct_in_force` meets its contract. Assumes nothing.
+use lib.Ieee.{ofBits}
+use borrow.Author.Needs.{needs}
+use Rattle.grid_cells.specs.Build.{percentageOf}
+use Rattle.grid_cells.proofs.pct_in_force.Statement.{statement}
+use Rattle.grid_cells.proofs.pct_in_force.Tie as tie
+
+enum-known-large-pct : tie.Need-enum-known-large-pct
+enum-known-large-pct c = search needs
+
+enum-told : tie.Need-enum-told
+enum-told c = search needs
+
+returns : tie.Need-returns
+unfolding percentageOf
+returns c = rw (c .before .large-pct .given .1)
+
+returns-2 : tie.Need-returns-2
+unfolding percentageOf ofBits
+returns-2 c = rw (c .enum-told .given .1)
+
+pub pct-in-force-spec : {M : Type 1} → statement M
+pct-in-force-spec = tie.close (tie.spec enum-known-large-pct enum-told returns returns-2)

@@ -1,0 +1,23 @@
+-- `grid_cells::tolerance_in_force` meets its contract. Assumes nothing.
+use lib.Ieee.{ofBits}
+use borrow.Author.Needs.{needs}
+use Rattle.grid_search.specs.Sheet.{toleranceOf}
+use Rattle.grid_cells.proofs.tolerance_in_force.Statement.{statement}
+use Rattle.grid_cells.proofs.tolerance_in_force.Tie as tie
+
+enum-known-tolerance : tie.Need-enum-known-tolerance
+enum-known-tolerance c = search needs
+
+enum-told : tie.Need-enum-told
+enum-told c = search needs
+
+returns : tie.Need-returns
+unfolding toleranceOf
+returns c = rw (c .before .tolerance .given .1)
+
+returns-2 : tie.Need-returns-2
+unfolding toleranceOf ofBits
+returns-2 c = rw (c .enum-told .given .1)
+
+pub tolerance-in-force-spec : {M : Type 1} → statement M
+tolerance-in-force-spec = tie.close (tie.spec enum-known-tolerance enum-told returns returns-2)

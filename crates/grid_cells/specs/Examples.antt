@@ -1,0 +1,56 @@
+-- One triangle, evaluated: percentage 1 is 23, the default percentage is accepted, and the cell is found.
+-- Assumes nothing.
+use Prim.Native.Nat.{ℕ}
+use mathlib.Core.Path.{_≡_, refl}
+use mathlib.Core.Bool.{true, false}
+use mathlib.Core.Option.{none, some}
+use mathlib.Core.List.{List, [], _∷_}
+use lib.IntN.{pos, negsuc}
+use lib.Ieee.{Float, fin, add, sub, mul, div, ofInt, toUnsigned}
+use Rattle.basics.specs.Refusals.{Answer, refused, success}
+use Rattle.floats.specs.Rounded.{zeroF, pow2, pow2⁻}
+use Rattle.floats.specs.Tests.{within}
+use Rattle.grid_search.specs.declared.GivenF64.the-variants.{LeftOut, Given}
+use Rattle.grid_cells.specs.declared.GridCells.{GridCells}
+use Rattle.mesh.specs.Mesh.{Mesh}
+use Rattle.cell_sizes.specs.declared.Settings.{Settings}
+use Rattle.cell_sizes.specs.Large.{measure}
+use Rattle.grid_cells.specs.Build.{settingsOf, Lent, Build, Made, make, build}
+use Rattle.grid_cells.specs.Search.{cellSearch}
+
+triangle : Mesh
+triangle = record { coords = zeroF ∷ zeroF ∷ pow2 2 ∷ zeroF ∷ zeroF ∷ pow2 2 ∷ []; corners = 0 ∷ 1 ∷ 2 ∷ [] }
+
+defaults : Settings
+unfolding settingsOf
+defaults = settingsOf LeftOut LeftOut LeftOut LeftOut
+
+all-large : Settings
+unfolding settingsOf
+all-large = settingsOf LeftOut LeftOut LeftOut (Given (pow2 0))
+
+lent : Lent
+lent = record { keys = 7 ∷ 7 ∷ 7 ∷ 7 ∷ []; cells = 8 ∷ 8 ∷ 8 ∷ 8 ∷ []; large = 9 ∷ [] }
+
+twenty-three : build 2 triangle all-large lent .answer ≡ refused 23
+unfolding build add sub mul div ofInt toUnsigned within triangle all-large lent
+twenty-three = refl
+
+rows : build 2 triangle defaults lent .lent ≡ record { keys = 0 ∷ 1 ∷ 2 ∷ 3 ∷ []; cells = 0 ∷ 0 ∷ 0 ∷ 0 ∷ []; large = 9 ∷ [] }
+unfolding build add sub mul div ofInt toUnsigned within triangle defaults lent
+rows = refl
+
+made : GridCells
+unfolding make measure
+made = make 2 (measure 2 triangle defaults) defaults .grid
+
+at-1·1 : cellSearch made triangle lent (zeroF ∷ zeroF ∷ zeroF ∷ pow2 7 ∷ []) (pow2 0 ∷ pow2 0 ∷ []) .answer ≡ refused 13
+unfolding cellSearch add sub mul div ofInt toUnsigned within triangle defaults lent made
+at-1·1 = refl
+
+filled : Lent
+filled = record { keys = 0 ∷ 1 ∷ 2 ∷ 3 ∷ []; cells = 0 ∷ 0 ∷ 0 ∷ 0 ∷ []; large = [] }
+
+at-1·1′ : cellSearch made triangle filled (zeroF ∷ zeroF ∷ zeroF ∷ pow2 7 ∷ []) (pow2 0 ∷ pow2 0 ∷ []) ≡ record { answer = success (some 0); zeta = pow2⁻ 1 ∷ pow2⁻ 2 ∷ pow2⁻ 2 ∷ pow2 7 ∷ [] }
+unfolding cellSearch add sub mul div ofInt toUnsigned within triangle defaults filled made
+at-1·1′ = refl
