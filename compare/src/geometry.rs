@@ -1,5 +1,8 @@
 //! Modules 2 and 9 beside gemlab's distances, triangle and tetrahedron.
 
+use crate::c::{
+    gemlab_point_circle_distance, gemlab_point_cylinder_distance, gemlab_point_line_distance, gemlab_point_point_distance,
+};
 use crate::near::{around, down, special, up};
 use crate::random::Random;
 use crate::tally::Tally;
@@ -9,35 +12,6 @@ use std::collections::BTreeSet;
 use std::hint::black_box;
 
 extern "C" {
-    fn gemlab_point_point_distance(a: *const f64, a_len: usize, b: *const f64, b_len: usize, distance: &mut f64)
-        -> u64;
-    fn gemlab_point_line_distance(
-        a: *const f64,
-        a_len: usize,
-        b: *const f64,
-        b_len: usize,
-        c: *const f64,
-        c_len: usize,
-        distance: &mut f64,
-    ) -> u64;
-    fn gemlab_point_circle_distance(
-        center: *const f64,
-        center_len: usize,
-        radius: f64,
-        p: *const f64,
-        p_len: usize,
-        distance: &mut f64,
-    ) -> u64;
-    fn gemlab_point_cylinder_distance(
-        a: *const f64,
-        a_len: usize,
-        b: *const f64,
-        b_len: usize,
-        radius: f64,
-        p: *const f64,
-        p_len: usize,
-        distance: &mut f64,
-    ) -> u64;
     fn probe_triangle_coords(
         xa: *const f64,
         xa_len: usize,

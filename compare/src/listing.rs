@@ -2,6 +2,7 @@
 //! radius test, long lists, and what a listing leaves in memory. And demand 3 as a test: the near and listed marks of a
 //! library against those of libraries that have one mark each.
 
+use crate::c::gemlab_grid_search_list;
 use crate::near::{around, down, up};
 use crate::random::Random;
 use crate::rows::{Lent, Settings, Source, World, LIMIT, MOST_ROWS};
@@ -10,39 +11,6 @@ use gemlab::util::GridSearch;
 use std::collections::{BTreeMap, BTreeSet, HashSet};
 use std::hint::black_box;
 use std::time::Instant;
-
-extern "C" {
-    fn gemlab_grid_search_list(
-        numbers: *const u64,
-        numbers_len: usize,
-        floats: *const f64,
-        floats_len: usize,
-        keys: *const u64,
-        keys_len: usize,
-        ids: *const u64,
-        ids_len: usize,
-        xs: *const f64,
-        xs_len: usize,
-        ys: *const f64,
-        ys_len: usize,
-        zs: *const f64,
-        zs_len: usize,
-        used: u64,
-        place: u64,
-        a: *const f64,
-        a_len: usize,
-        b: *const f64,
-        b_len: usize,
-        number: f64,
-        filter: u64,
-        axis: u64,
-        low: f64,
-        high: f64,
-        list: *mut u64,
-        list_len: usize,
-        count: *mut u64,
-    ) -> u64;
-}
 
 /// Random listings, and how many on one library.
 const CALLS: usize = 1_000_000;

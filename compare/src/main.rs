@@ -3,6 +3,10 @@
 //!
 //! A part is a file of its own and a line of `PARTS`.
 
+/// The C functions, as the bindings declare them; each part uses its own.
+#[allow(dead_code)]
+#[path = "../../bindings/src/c.rs"]
+mod c;
 mod floats;
 mod geometry;
 mod listing;

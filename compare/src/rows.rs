@@ -1,6 +1,7 @@
 //! Modules 6 and 7 beside gemlab's `GridSearch::insert` and `search`: random runs of insertions and searches on sheets of
 //! every shape, damaged libraries for each clause of 13, and everything lent compared before and after each call.
 
+use crate::c::{gemlab_grid_search_insert, gemlab_grid_search_new, gemlab_grid_search_search};
 use crate::near::{around, same, special, up};
 use crate::random::Random;
 use crate::tally::Tally;
@@ -9,68 +10,6 @@ use gemlab::util::{GridSearch, SheetFields};
 use std::collections::{BTreeMap, BTreeSet};
 use std::hint::black_box;
 use std::time::Instant;
-
-extern "C" {
-    fn gemlab_grid_search_new(
-        xmin: *const f64,
-        xmin_len: usize,
-        xmax: *const f64,
-        xmax_len: usize,
-        ndiv_given: u64,
-        ndiv: u64,
-        tolerance_given: u64,
-        tolerance: f64,
-        border_tol_given: u64,
-        border_tol: f64,
-        numbers: *mut u64,
-        numbers_len: usize,
-        floats: *mut f64,
-        floats_len: usize,
-    ) -> u64;
-
-    fn gemlab_grid_search_insert(
-        numbers: *const u64,
-        numbers_len: usize,
-        floats: *const f64,
-        floats_len: usize,
-        keys: *mut u64,
-        keys_len: usize,
-        ids: *mut u64,
-        ids_len: usize,
-        xs: *mut f64,
-        xs_len: usize,
-        ys: *mut f64,
-        ys_len: usize,
-        zs: *mut f64,
-        zs_len: usize,
-        used: *mut u64,
-        id: u64,
-        x: *const f64,
-        x_len: usize,
-    ) -> u64;
-
-    fn gemlab_grid_search_search(
-        numbers: *const u64,
-        numbers_len: usize,
-        floats: *const f64,
-        floats_len: usize,
-        keys: *const u64,
-        keys_len: usize,
-        ids: *const u64,
-        ids_len: usize,
-        xs: *const f64,
-        xs_len: usize,
-        ys: *const f64,
-        ys_len: usize,
-        zs: *const f64,
-        zs_len: usize,
-        used: u64,
-        x: *const f64,
-        x_len: usize,
-        found: *mut u64,
-        id: *mut u64,
-    ) -> u64;
-}
 
 /// Calls of random runs, and runs on one sheet each.
 const CALLS: usize = 10_000_000;

@@ -1,5 +1,6 @@
 //! Modules 3 to 5 beside gemlab's `GridSearch::new`, and the keys and centres of containers beside its private methods.
 
+use crate::c::gemlab_grid_search_new;
 use crate::near::{around, special, up};
 use crate::random::Random;
 use crate::tally::Tally;
@@ -9,22 +10,6 @@ use std::collections::BTreeSet;
 use std::hint::black_box;
 
 extern "C" {
-    fn gemlab_grid_search_new(
-        xmin: *const f64,
-        xmin_len: usize,
-        xmax: *const f64,
-        xmax_len: usize,
-        ndiv_given: u64,
-        ndiv: u64,
-        tolerance_given: u64,
-        tolerance: f64,
-        border_tol_given: u64,
-        border_tol: f64,
-        numbers: *mut u64,
-        numbers_len: usize,
-        floats: *mut f64,
-        floats_len: usize,
-    ) -> u64;
     fn probe_container_key(
         ndim: usize,
         side_length: f64,
