@@ -1,4 +1,4 @@
--- One triangle, evaluated: percentage 1 is 23, the default percentage is accepted, and the cell is found.
+-- One triangle, evaluated: percentage 1 is 23, the default percentage is accepted.
 -- Assumes nothing.
 use Prim.Native.Nat.{ℕ}
 use mathlib.Core.Path.{_≡_, refl}
@@ -16,12 +16,11 @@ use Rattle.mesh.specs.Mesh.{Mesh}
 use Rattle.cell_sizes.specs.declared.Settings.{Settings}
 use Rattle.cell_sizes.specs.Large.{measure}
 use Rattle.grid_cells.specs.Build.{settingsOf, Lent, Build, Made, make, build}
-use Rattle.grid_cells.specs.Search.{cellSearch}
 
-triangle : Mesh
+unfoldable pub triangle : Mesh
 triangle = record { coords = zeroF ∷ zeroF ∷ pow2 2 ∷ zeroF ∷ zeroF ∷ pow2 2 ∷ []; corners = 0 ∷ 1 ∷ 2 ∷ [] }
 
-defaults : Settings
+unfoldable pub defaults : Settings
 unfolding settingsOf
 defaults = settingsOf LeftOut LeftOut LeftOut LeftOut
 
@@ -40,17 +39,7 @@ rows : build 2 triangle defaults lent .lent ≡ record { keys = 0 ∷ 1 ∷ 2 �
 unfolding build add sub mul div ofInt toUnsigned within triangle defaults lent
 rows = refl
 
-made : GridCells
-unfolding make measure
+-- the index that the default settings give
+unfoldable pub made : GridCells
+unfolding make measure triangle defaults
 made = make 2 (measure 2 triangle defaults) defaults .grid
-
-at-1·1 : cellSearch made triangle lent (zeroF ∷ zeroF ∷ zeroF ∷ pow2 7 ∷ []) (pow2 0 ∷ pow2 0 ∷ []) .answer ≡ refused 13
-unfolding cellSearch add sub mul div ofInt toUnsigned within triangle defaults lent made
-at-1·1 = refl
-
-filled : Lent
-filled = record { keys = 0 ∷ 1 ∷ 2 ∷ 3 ∷ []; cells = 0 ∷ 0 ∷ 0 ∷ 0 ∷ []; large = [] }
-
-at-1·1′ : cellSearch made triangle filled (zeroF ∷ zeroF ∷ zeroF ∷ pow2 7 ∷ []) (pow2 0 ∷ pow2 0 ∷ []) ≡ record { answer = success (some 0); zeta = pow2⁻ 1 ∷ pow2⁻ 2 ∷ pow2⁻ 2 ∷ pow2 7 ∷ [] }
-unfolding cellSearch add sub mul div ofInt toUnsigned within triangle defaults filled made
-at-1·1′ = refl

@@ -1,5 +1,4 @@
--- The words of the contracts of module 10: the index that a build gives, and the search.
+-- The words of the contracts of module 10's build: the index that it gives.
 pub mod Build
 pub mod Steps
-pub mod Search
 pub mod Examples

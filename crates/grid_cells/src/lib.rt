@@ -1,4 +1,4 @@
-// Module 10: the cells of a mesh found by position. From gemlab's `mesh/grid_cells.rs`, for triangles (2D) and
+// Module 10: an index of the cells of a mesh, to find them by position. From gemlab's `mesh/grid_cells.rs`, for triangles (2D) and
 // tetrahedra (3D), over plain slices: flat coordinates, and 3 or 4 corners per cell.
 ghost use Prim.Native.Nat.{_≤_};
 ghost use mathlib.Core.Path.{_≡_};
@@ -40,13 +40,6 @@ pub struct GridCells {
 // What `GridCells::new` answers.
 pub enum Built {
     Index(GridCells),
-    Refused(u64),
-}
-
-// What a cell search answers.
-pub enum FoundCell {
-    Cell(CellId),
-    Nothing,
     Refused(u64),
 }
 

@@ -20,11 +20,11 @@ use Rattle.grid.specs.Containers.{outside, ratios, exceed, keyOf, containers}
 use Rattle.mesh.specs.Mesh.{Mesh, cellCount, meshTooLong, brokenMesh, cornerPoints}
 use Rattle.mesh.specs.Cell.{cellZeta, contains}
 use Rattle.table.specs.Rows.{Slot, sorted, slotsOf}
 use Rattle.grid_cells.specs.declared.GridCells.{GridCells}
-use Rattle.grid_cells.specs.declared.FoundCell.{FoundCell}
-use Rattle.grid_cells.specs.declared.FoundCell.the-variants.{Cell, Nothing, Refused}
+use Rattle.cell_search.specs.declared.FoundCell.{FoundCell}
+use Rattle.cell_search.specs.declared.FoundCell.the-variants.{Cell, Nothing, Refused}
 use Rattle.cell_rows.specs.Filing.{cellKey, overshoots}
 use Rattle.grid_cells.specs.Build.{containersOf, Lent, lentTooLong}
 
 -- ---- the candidates: large cells ascending, then those of the position's container ascending
 
