@@ -1,5 +1,6 @@
 #!/bin/sh
-# compare/run.sh [PART..]: builds the static libraries and the comparison, and runs it.
+# compare/run.sh [PART..]: builds the static libraries and the comparison, and runs it. Without a part, it also checks
+# that gemlab still gives the answers that are stored in this repository (docs/STORED.md).
 # GEMLAB_SRC names the folder of gemlab's source, where that is not ../shared/docs/src from the repository's root.
 set -eu
 cd "$(dirname "$0")/.."
@@ -13,4 +14,7 @@ for name in probe capi; do
 done
 cd compare
 cargo build --release --offline --quiet
-exec target/release/compare "$@"
+failed=0
+[ $# -gt 0 ] || target/release/stored check || failed=1
+target/release/compare "$@" || failed=1
+exit $failed

@@ -4,3 +4,13 @@ mod distances;
 mod library;
 mod lists;
 mod sheet;
+
+// for Rattle programs
+pub use distances::gemlab_point_circle_distance;
+pub use distances::gemlab_point_cylinder_distance;
+pub use distances::gemlab_point_line_distance;
+pub use distances::gemlab_point_point_distance;
+pub use library::gemlab_grid_search_insert;
+pub use library::gemlab_grid_search_search;
+pub use lists::gemlab_grid_search_list;
+pub use sheet::gemlab_grid_search_new;

@@ -1,0 +1,43 @@
+//! What gemlab answers, stored in files of this repository: the text that `positions` has to write. Nothing of the library
+//! is called here.
+//!
+//! `stored check` says whether each file is what gemlab gives today; `stored write` writes them.
+
+mod numbers;
+mod positions;
+
+use std::fs;
+use std::path::Path;
+use std::process::ExitCode;
+
+/// What a file has to hold.
+type Made = fn() -> Vec<u8>;
+
+/// The files, by their place in the repository.
+const STORED: &[(&str, Made)] = &[("crates/positions/stdout", positions::text)];
+
+fn main() -> ExitCode {
+    let write = match std::env::args().nth(1).as_deref() {
+        Some("check") => false,
+        Some("write") => true,
+        _ => {
+            eprintln!("stored: check or write");
+            return ExitCode::from(2);
+        }
+    };
+    let root = Path::new(env!("CARGO_MANIFEST_DIR")).parent().unwrap();
+    let mut failed = false;
+    for (name, made) in STORED {
+        let path = root.join(name);
+        let bytes = made();
+        if write {
+            fs::write(&path, &bytes).unwrap_or_else(|e| panic!("{}: {e}", path.display()));
+            println!("stored: {name} written, {} bytes", bytes.len());
+        } else {
+            let agrees = fs::read(&path).is_ok_and(|there| there == bytes);
+            failed |= !agrees;
+            println!("stored: {name} is {}what gemlab gives", if agrees { "" } else { "not " });
+        }
+    }
+    ExitCode::from(failed as u8)
+}
