@@ -1,0 +1,4 @@
+-- Laws of loading.
+pub mod Chunks
+pub mod Marks
+pub mod Sheets

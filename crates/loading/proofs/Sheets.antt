@@ -1,0 +1,37 @@
+-- The sheet of two records, by the tests of its bytes.
+-- Assumes nothing.
+use Prim.Native.Nat.{ℕ, _≤_}
+use native.Mathlib.Omega.{arith}
+use mathlib.Core.Path.{_≡_, sym}
+use mathlib.Core.Logic.{⊎-elim}
+use mathlib.Core.Bool.{true, false}
+use mathlib.Core.List.{List}
+use lib.ListN.{length}
+use borrow.Author.Tests.{eq-eqb, ne-eqb}
+use Rattle.basics.specs.Refusals.{refused, fault}
+use Rattle.geometry.specs.Position.{dimension}
+use Rattle.geometry.specs.Axes.{two-or-three}
+use Rattle.grid_search.specs.declared.GivenU64.the-variants as number
+use Rattle.grid_search.specs.declared.GivenF64.the-variants as float
+use Rattle.grid_search.specs.Sheet.{newSheet}
+use Rattle.records.specs.declared.Record.{Record}
+use Rattle.records.specs.Records.{recordAt}
+use Rattle.loading.specs.Loading.{placeOf, fileTests, unless, sheetOf}
+
+pub at-most-three : (n : ℕ) → dimension n ≡ true → n ≤ 3
+at-most-three n d = ⊎-elim (λ e. omega arith) (λ e. omega arith) (two-or-three n d)
+
+module _ (bytes : List ℕ) where
+  pub not-two : (length bytes ≡ 64 → ⊥) → refused 13 ≡ sheetOf bytes
+  unfolding sheetOf fileTests fault unless
+  not-two h = rw (ne-eqb (length bytes) 64 h)
+
+  module _ (e : length bytes ≡ 64) (low high : Record) (first : low ≡ recordAt bytes 0) (second : high ≡ recordAt bytes 32) where
+    pub no-dimension : dimension (low .id) ≡ false → refused 1 ≡ sheetOf bytes
+    unfolding sheetOf fileTests fault unless
+    no-dimension d = rw (sym first, eq-eqb (length bytes) 64 e, d)
+
+    pub from-records : dimension (low .id) ≡ true
+        → newSheet (placeOf (low .id) low) (placeOf (low .id) high) (number.Given (high .id)) float.LeftOut float.LeftOut ≡ sheetOf bytes
+    unfolding sheetOf fileTests fault unless
+    from-records d = rw (sym first, sym second, eq-eqb (length bytes) 64 e, d)

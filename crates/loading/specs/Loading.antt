@@ -1,0 +1,76 @@
+-- A sheet and marks from the bytes of their files.
+-- Assumes nothing.
+use Prim.Native.Nat.{ℕ, _*_, _/_, _%_}
+use mathlib.Core.Bool.{not}
+use mathlib.Core.Option.{Option, none, some}
+use mathlib.Core.List.{List, [], _∷_}
+use lib.Dec.{eqb}
+use lib.ListN.{length}
+use lib.Ieee.{Float}
+use Rattle.basics.specs.Lists.{tab}
+use Rattle.basics.specs.Refusals.{Test, refuse, fault, Answer, refused, success}
+use Rattle.geometry.specs.declared.Position.{Position}
+use Rattle.geometry.specs.Position.{coords, dimension}
+use Rattle.grid_search.specs.declared.GivenU64.the-variants as number
+use Rattle.grid_search.specs.declared.GivenF64.the-variants as float
+use Rattle.grid_search.specs.declared.GridSearch.{GridSearch}
+use Rattle.grid_search.specs.Sheet.{newSheet}
+use Rattle.rows.specs.Library.{Library, Turn}
+use Rattle.rows.specs.Insert.{insertion}
+use Rattle.records.specs.declared.Record.{Record}
+use Rattle.records.specs.Records.{recordAt}
+
+-- the floats of a record on the first n axes: in 2D the third is not read
+abbrev pub placeOf : ℕ → Record → List Float
+placeOf n r = coords n (record { x = r .x; y = r .y; z = r .z })
+
+-- ---- sheet.bin: two records, dimension and low corner, divisions and high corner; other settings left out
+
+unfoldable pub fileTests : List ℕ → List Test
+fileTests bytes =
+    refuse 13 (not (eqb (length bytes) 64))
+    ∷ refuse 1 (not (dimension (recordAt bytes 0 .id)))
+    ∷ []
+
+unfoldable pub unless : {A : Type 0} → Option ℕ → Answer A → Answer A
+unless none a = a
+unless (some n) a = refused n
+
+unfoldable pub sheetOf : List ℕ → Answer GridSearch
+unfolding unless fault fileTests
+sheetOf bytes =
+    let low = recordAt bytes 0 in
+    let high = recordAt bytes 32 in
+    unless (fault (fileTests bytes))
+    (newSheet (placeOf (low .id) low) (placeOf (low .id) high) (number.Given (high .id)) float.LeftOut float.LeftOut)
+
+-- ---- marks.bin: a record for each mark
+
+-- the whole records
+unfoldable pub recordsOf : List ℕ → List Record
+recordsOf bytes = tab (length bytes / 32) (λ i. recordAt bytes (32 * i))
+
+-- one turn, and the next where it was not turned away
+unfoldable pub andThen : Turn ℕ → Answer ℕ → Turn ℕ → Turn ℕ
+andThen t (refused n) next = t
+andThen t (success n) next = next
+
+-- each mark inserted in order, up to the first that is turned away
+unfoldable pub insertAll : GridSearch → Library → List Record → Turn ℕ
+unfolding andThen
+insertAll s l [] = record { library = l; answer = success (l .used) }
+insertAll s l (r ∷ rs) = let t = insertion s l (r .id) (placeOf (s .ndim) r) in andThen t (t .answer) (insertAll s (t .library) rs)
+
+-- bytes past the last whole record: 13
+unfoldable pub leftover : List ℕ → Option ℕ
+unfolding fault
+leftover bytes = fault (refuse 13 (not (eqb (length bytes % 32) 0)) ∷ [])
+
+-- and they are judged after the marks
+unfoldable pub finish : Option ℕ → Turn ℕ → Turn ℕ
+unfolding andThen unless
+finish left t = andThen t (t .answer) (record { library = t .library; answer = unless left (t .answer) })
+
+unfoldable pub insertBytes : GridSearch → Library → List ℕ → Turn ℕ
+unfolding finish leftover insertAll recordsOf
+insertBytes s l bytes = finish (leftover bytes) (insertAll s l (recordsOf bytes))
