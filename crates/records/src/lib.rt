@@ -32,7 +32,7 @@ fn wide(byte: u8) -> u64
     byte as u64
 }
 
-fn number_at(bytes: &[u8], at: usize) -> u64
+pub fn number_at(bytes: &[u8], at: usize) -> u64
     requires { ⌜ at + 8 ≤ length (now bytes) ⌝ }
     ensures { λ r. ⌜ r ≡ numberAt (now (bytes .entry)) at ⌝ }
 {
@@ -47,7 +47,7 @@ fn number_at(bytes: &[u8], at: usize) -> u64
 }
 
 // The patterns above infinity's, without the sign, are NaNs'.
-fn float_at(bytes: &[u8], at: usize) -> f64
+pub fn float_at(bytes: &[u8], at: usize) -> f64
     requires { ⌜ at + 8 ≤ length (now bytes) ⌝ }
     ensures { λ r. ⌜ r ≡ floatAt (now (bytes .entry)) at ⌝ }
 {
