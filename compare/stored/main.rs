@@ -1,10 +1,16 @@
-//! What gemlab answers, stored in files of this repository: the text that `positions` has to write. Nothing of the library
-//! is called here.
+//! What gemlab answers, stored in files of this repository: the text that `positions` has to write, and the list of answers
+//! that the program `replay` goes through. Nothing of the library is called here.
 //!
 //! `stored check` says whether each file is what gemlab gives today; `stored write` writes them.
 
+mod libraries;
 mod numbers;
 mod positions;
+#[allow(dead_code)]
+#[path = "../src/random.rs"]
+mod random;
+mod replay;
+mod words;
 
 use std::fs;
 use std::path::Path;
@@ -14,7 +20,11 @@ use std::process::ExitCode;
 type Made = fn() -> Vec<u8>;
 
 /// The files, by their place in the repository.
-const STORED: &[(&str, Made)] = &[("crates/positions/stdout", positions::text)];
+const STORED: &[(&str, Made)] = &[
+    ("crates/positions/stdout", positions::text),
+    ("crates/replay/stdout", replay::text),
+    ("crates/replay/data/libraries.bin", replay::libraries_file),
+];
 
 fn main() -> ExitCode {
     let write = match std::env::args().nth(1).as_deref() {

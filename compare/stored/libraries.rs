@@ -1,0 +1,418 @@
+//! A sample of gemlab's sheets, insertions, searches, listings and distances, for the program `replay`.
+//!
+//! The inputs are made by a generator with a fixed seed, so that the file is the same in every run. What gemlab takes
+//! from a hash map in any order is stored as the set of what it may give, and what it gives is checked to be in it.
+//! Every input is within the limits of document 01, and breaks at most one rule: only refusals that gemlab has are here.
+
+use crate::random::Random;
+use crate::words::{three, Words};
+use gemlab::geometry::*;
+use gemlab::util::GridSearch;
+use gemlab::StrError;
+use std::collections::HashSet;
+
+/// The kinds of entries. 0 ends a file.
+pub const SHEET: u64 = 1;
+pub const INSERT: u64 = 2;
+pub const SEARCH: u64 = 3;
+pub const LIST: u64 = 4;
+pub const TABLE: u64 = 5;
+pub const DISTANCE: u64 = 6;
+
+/// Libraries, marks put into each, searches and listings in each.
+const LIBRARIES: usize = 48;
+const MARKS: usize = 24;
+const SEARCHES: usize = 30;
+const LISTINGS: usize = 8;
+
+/// Distances of each kind in each dimension.
+const DISTANCES: usize = 100;
+
+/// The room that the program has for rows, and for ids.
+const ROWS: usize = 512;
+const IDS: usize = 64;
+
+/// A sheet's corners and settings.
+#[derive(Clone)]
+struct Settings {
+    low: Vec<f64>,
+    high: Vec<f64>,
+    ndiv: Option<usize>,
+    tolerance: Option<f64>,
+    border: Option<f64>,
+}
+
+impl Settings {
+    fn random(r: &mut Random, ndim: usize) -> Self {
+        let size = *r.pick(&[1.0, 8.0, 50.0, 1000.0]);
+        let low: Vec<f64> = (0..ndim).map(|_| *r.pick(&[0.0, -1.0, -0.1, 3.75, -size / 3.0])).collect();
+        let high = low.iter().map(|x| x + size * *r.pick(&[1.0, 0.5, 0.1, 1.3, 2.0 / 3.0])).collect();
+        let ndiv = if r.below(6) == 0 { None } else { Some(2 + r.below(if ndim == 2 { 20 } else { 9 }) as usize) };
+        let tolerance = if r.below(3) == 0 { None } else { Some(size * *r.pick(&[0.0005, 0.001, 1.0 / 512.0])) };
+        let border = match r.below(3) {
+            0 => None,
+            1 => Some(0.0),
+            _ => Some(size * 0.01),
+        };
+        Settings { low, high, ndiv, tolerance, border }
+    }
+
+    fn made(&self) -> Result<GridSearch, StrError> {
+        GridSearch::new(&self.low, &self.high, self.ndiv, self.tolerance, self.border)
+    }
+
+    /// The entry, with the sheet as the C interface lays it out in two lists.
+    fn store(&self, w: &mut Words) -> Option<GridSearch> {
+        w.entry(SHEET);
+        w.position(&self.low);
+        w.position(&self.high);
+        w.word(self.ndiv.is_some() as u64);
+        w.count(self.ndiv.unwrap_or(0));
+        w.setting(self.tolerance);
+        w.setting(self.border);
+        let grid = w.answer(self.made())?;
+        let f = grid.fields();
+        w.count(f.ndim);
+        w.word(self.ndiv.is_some() as u64);
+        w.count(self.ndiv.unwrap_or(0));
+        w.word(self.tolerance.is_some() as u64);
+        w.word(self.border.is_some() as u64);
+        (0..3).for_each(|i| w.count(f.ndiv.get(i).copied().unwrap_or(1)));
+        for corner in [&self.low, &self.high] {
+            w.floats(&three(corner));
+        }
+        w.float(self.tolerance.unwrap_or(0.0));
+        w.float(self.border.unwrap_or(0.0));
+        for corner in [&f.xmin, &f.xmax] {
+            w.floats(&three(corner));
+        }
+        w.floats(&[f.side_length, f.tol_dist, f.radius]);
+        Some(grid)
+    }
+}
+
+/// Each of gemlab's refusals of a sheet, once.
+fn refused_sheets(w: &mut Words) {
+    let good = Settings { low: vec![0.0; 2], high: vec![8.0, 4.0], ndiv: Some(8), tolerance: None, border: None };
+    let faults: [&dyn Fn(&mut Settings); 12] = [
+        &|s| s.low = vec![],
+        &|s| s.low = vec![0.0],
+        &|s| s.low = vec![0.0; 4],
+        &|s| s.high = vec![8.0; 3],
+        &|s| s.ndiv = Some(0),
+        &|s| s.ndiv = Some(1),
+        &|s| s.high[1] = 0.0,
+        &|s| s.high[0] = -1.0,
+        &|s| s.tolerance = Some(0.0),
+        &|s| s.tolerance = Some(-1.0),
+        &|s| s.border = Some(-0.5),
+        &|s| s.tolerance = Some(0.6),
+    ];
+    for fault in faults {
+        let mut settings = good.clone();
+        fault(&mut settings);
+        assert!(settings.store(w).is_none());
+    }
+}
+
+/// A position within a sheet: anywhere, or where containers meet, moved by up to two tolerances.
+fn position(r: &mut Random, grid: &GridSearch) -> Vec<f64> {
+    let f = grid.fields();
+    (0..f.ndim)
+        .map(|i| {
+            let x = if r.below(2) == 0 {
+                r.between(f.xmin[i], f.xmax[i])
+            } else {
+                f.xmin[i] + f.side_length * r.below(f.ndiv[i] as u64 + 1) as f64
+            };
+            let steps = *r.pick(&[0.0, 0.0, 0.5, -0.5, 1.0, -1.0, 2.0, -2.0]);
+            (x + f.tolerance * steps).clamp(f.xmin[i], f.xmax[i])
+        })
+        .collect()
+}
+
+/// A position beside another: at the same place, within the near distance, or just past it.
+fn beside(r: &mut Random, grid: &GridSearch, x: &[f64]) -> Vec<f64> {
+    let f = grid.fields();
+    let steps = *r.pick(&[0.0, 0.5, 1.0, -1.0, 1.125, -0.999]);
+    (0..f.ndim)
+        .map(|i| {
+            let step = if r.below(2) == 0 { f.tol_dist * steps } else { 0.0 };
+            (x[i] + step).clamp(f.xmin[i], f.xmax[i])
+        })
+        .collect()
+}
+
+/// Outside a sheet on one axis, or of another length.
+fn astray(r: &mut Random, grid: &GridSearch) -> Vec<f64> {
+    let f = grid.fields();
+    let mut x = position(r, grid);
+    match r.below(4) {
+        0 => {
+            x.pop();
+        }
+        1 => x.push(0.0),
+        2 => x[r.below(f.ndim as u64) as usize] = f.xmin[0].min(f.xmin[1]) - 4096.0,
+        _ => {
+            let i = r.below(f.ndim as u64) as usize;
+            x[i] = f.xmax[i].next_up();
+        }
+    }
+    x
+}
+
+/// The ids that a search may give.
+fn near_ids(grid: &GridSearch, x: &[f64]) -> Vec<usize> {
+    let key = grid.key_of(x).unwrap();
+    let tol_dist = grid.fields().tol_dist;
+    grid.rows()
+        .iter()
+        .filter(|row| row.key == key && point_point_distance(&row.x, x).unwrap() <= tol_dist)
+        .map(|row| row.id)
+        .collect()
+}
+
+fn store_insert(w: &mut Words, grid: &mut GridSearch, id: usize, x: &[f64]) {
+    w.entry(INSERT);
+    w.count(id);
+    w.position(x);
+    w.answer(grid.insert(id, x));
+    let rows = grid.rows().len();
+    assert!(rows <= ROWS);
+    w.count(rows);
+}
+
+fn store_search(w: &mut Words, grid: &GridSearch, x: &[f64]) {
+    w.entry(SEARCH);
+    w.position(x);
+    if let Some(found) = w.answer(grid.search(x)) {
+        let ids = near_ids(grid, x);
+        assert_eq!(found.is_some(), !ids.is_empty());
+        assert!(found.is_none_or(|id| ids.contains(&id)));
+        w.count(ids.len());
+        ids.iter().for_each(|id| w.count(*id));
+    }
+}
+
+/// The rows, ascending, column by column.
+fn store_table(w: &mut Words, grid: &GridSearch) {
+    w.entry(TABLE);
+    let rows = grid.rows();
+    w.count(rows.len());
+    rows.iter().for_each(|row| w.count(row.key));
+    rows.iter().for_each(|row| w.count(row.id));
+    for axis in 0..3 {
+        rows.iter().for_each(|row| w.float(three(&row.x)[axis]));
+    }
+}
+
+/// A place as the C interface has it.
+struct Place {
+    kind: u64,
+    a: Vec<f64>,
+    b: Vec<f64>,
+    number: f64,
+}
+
+impl Place {
+    /// A place through one or two marks.
+    fn random(r: &mut Random, grid: &GridSearch, marks: &[Vec<f64>]) -> Self {
+        let ndim = grid.fields().ndim;
+        let p = r.pick(marks).clone();
+        let mut q = r.pick(marks).clone();
+        if p == q {
+            q[0] += 1.0;
+        }
+        // one in eight is not for this dimension
+        let astray = r.below(8) == 0;
+        let kind = match (ndim == 2) != astray {
+            true => r.below(2),
+            false => *r.pick(&[0, 2, 3, 4, 5]),
+        };
+        let none = vec![];
+        match kind {
+            0 => Place { kind, a: p, b: q, number: 0.0 },
+            1 => {
+                let number = point_point_distance(&p, &q).unwrap();
+                Place { kind, a: p, b: none, number: if r.below(6) == 0 { -number } else { number } }
+            }
+            2 => {
+                let x = r.pick(marks);
+                let number = if ndim == 3 { point_line_distance(&p, &q, x).unwrap_or(1.0) } else { 1.0 };
+                Place { kind, a: p, b: q, number }
+            }
+            _ => {
+                let axis = [2, 0, 1][kind as usize - 3];
+                Place { kind, a: none.clone(), b: none, number: p.get(axis).copied().unwrap_or(1.0) }
+            }
+        }
+    }
+
+    fn listed<F: FnMut(&[f64]) -> bool>(&self, grid: &GridSearch, filter: F) -> Result<HashSet<usize>, StrError> {
+        match self.kind {
+            0 => grid.search_on_line(&self.a, &self.b, filter),
+            1 => grid.search_on_circle(&self.a, self.number, filter),
+            2 => grid.search_on_cylinder(&self.a, &self.b, self.number, filter),
+            3 => grid.search_on_plane_xy(self.number, filter),
+            4 => grid.search_on_plane_yz(self.number, filter),
+            _ => grid.search_on_plane_xz(self.number, filter),
+        }
+    }
+
+    /// The entry, with everything kept or a range on one axis.
+    fn store(&self, w: &mut Words, grid: &GridSearch, range: Option<(usize, f64, f64)>) {
+        w.entry(LIST);
+        w.word(self.kind);
+        w.position(&self.a);
+        w.position(&self.b);
+        w.float(self.number);
+        let (axis, low, high) = range.unwrap_or((0, 0.0, 0.0));
+        w.word(range.is_some() as u64);
+        w.count(axis);
+        w.floats(&[low, high]);
+        let kept = |x: &[f64]| range.is_none_or(|(axis, low, high)| low <= x[axis] && x[axis] <= high);
+        if let Some(ids) = w.answer(self.listed(grid, kept)) {
+            let mut ids: Vec<_> = ids.into_iter().collect();
+            ids.sort();
+            assert!(ids.len() <= IDS);
+            w.count(ids.len());
+            ids.iter().for_each(|id| w.count(*id));
+        }
+    }
+}
+
+fn store_library(w: &mut Words, r: &mut Random, ndim: usize) {
+    let mut grid = loop {
+        let settings = Settings::random(r, ndim);
+        if settings.made().is_ok() {
+            break settings.store(w).unwrap();
+        }
+    };
+
+    // a line through one point: only where there is a row
+    let x = position(r, &grid);
+    let point = Place { kind: 0, a: x.clone(), b: x.clone(), number: 0.0 };
+    point.store(w, &grid, None);
+
+    let mut marks: Vec<Vec<f64>> = Vec::new();
+    for i in 0..MARKS {
+        let x = match r.below(8) {
+            0 if i > 0 => astray(r, &grid),
+            1 | 2 if i > 0 => {
+                let other = r.pick(&marks).clone();
+                beside(r, &grid, &other)
+            }
+            _ => position(r, &grid),
+        };
+        // some ids come again, some are large
+        let id = if r.below(5) == 0 { 1 + r.below(3) as usize } else { 10 + i };
+        let id = if r.below(9) == 0 { usize::MAX - id } else { id };
+        store_insert(w, &mut grid, id, &x);
+        if x.len() == ndim && grid.key_of(&x).is_some() {
+            marks.push(x);
+        }
+    }
+    store_table(w, &grid);
+    point.store(w, &grid, None);
+
+    for i in 0..SEARCHES {
+        let x = match i % 6 {
+            0 => astray(r, &grid),
+            1 => position(r, &grid),
+            _ => {
+                let other = r.pick(&marks).clone();
+                beside(r, &grid, &other)
+            }
+        };
+        store_search(w, &grid, &x);
+    }
+
+    for _ in 0..LISTINGS {
+        let place = Place::random(r, &grid, &marks);
+        let axis = r.below(ndim as u64) as usize;
+        let (p, q) = (r.pick(&marks)[axis], r.pick(&marks)[axis]);
+        let range = match r.below(4) {
+            0 => Some((axis, p, q)),
+            1 => Some((axis, p.min(q), p.max(q))),
+            _ => None,
+        };
+        place.store(w, &grid, range);
+    }
+}
+
+pub fn libraries() -> Words {
+    let mut w = Words::default();
+    let mut r = Random::new(11);
+    refused_sheets(&mut w);
+    for i in 0..LIBRARIES {
+        store_library(&mut w, &mut r, 2 + i % 2);
+    }
+    store_distances(&mut w, &mut r);
+    w.word(0);
+    w
+}
+
+// ---- distances
+
+/// Document 01's number for the lengths of a distance's positions, of which the first gives the dimension.
+fn lengths(kind: u64, lists: &[&[f64]]) -> Option<u64> {
+    let ndim = lists[0].len();
+    if ndim != 2 && ndim != 3 {
+        return Some(1);
+    }
+    if (kind == 2 && ndim == 3) || (kind == 3 && ndim == 2) {
+        return Some(16);
+    }
+    lists.iter().any(|x| x.len() != ndim).then_some(2)
+}
+
+/// A distance of a kind: 0 between points, 1 to a line, 2 to a circle, 3 to a cylinder.
+fn store_distance(w: &mut Words, kind: u64, a: &[f64], b: &[f64], c: &[f64], radius: f64) {
+    w.entry(DISTANCE);
+    w.word(kind);
+    [a, b, c].iter().for_each(|x| w.position(x));
+    w.float(radius);
+    let (d, lists) = match kind {
+        0 => (point_point_distance(a, b), vec![a, b]),
+        1 => (point_line_distance(a, b, c), vec![a, b, c]),
+        2 => (point_circle_distance(a, radius, b), vec![a, b]),
+        _ => (point_cylinder_distance(a, b, radius, c), vec![a, b, c]),
+    };
+    // one text of gemlab's covers 1 and 16
+    if let Some(n) = lengths(kind, &lists) {
+        assert!(d.is_err());
+        w.word(n);
+    } else if let Some(d) = w.answer(d) {
+        w.float(d);
+    }
+}
+
+fn store_distances(w: &mut Words, r: &mut Random) {
+    for kind in 0..4 {
+        let dims: &[usize] = match kind {
+            0 | 1 => &[2, 3],
+            2 => &[2],
+            _ => &[3],
+        };
+        for ndim in dims {
+            for i in 0..DISTANCES {
+                let size = *r.pick(&[1.0, 3.0, 100.0, 1048576.0, 1e-7]);
+                let few = i % 4 == 0;
+                let mut position = || -> Vec<f64> {
+                    (0..*ndim).map(|_| if few { r.below(5) as f64 - 2.0 } else { r.between(-size, size) }).collect()
+                };
+                let (a, mut b, c) = (position(), position(), position());
+                if i % 10 == 9 {
+                    b.clone_from(&a);
+                }
+                store_distance(w, kind, &a, &b, &c, if few { -1.0 } else { size / 2.0 });
+            }
+        }
+        for lengths in
+            [[0, 0, 0], [1, 1, 1], [4, 4, 4], [2, 3, 2], [3, 2, 3], [2, 2, 0], [3, 3, 1], [3, 3, 3], [2, 2, 2]]
+        {
+            let [a, b, c] = lengths.map(|n| (0..n).map(|i| i as f64 + n as f64).collect::<Vec<_>>());
+            store_distance(w, kind, &a, &b, &c, 1.0);
+        }
+    }
+}

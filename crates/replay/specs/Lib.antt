@@ -1,0 +1,2 @@
+-- What the contracts of a program that reads lists cite.
+pub mod Counts

@@ -1,0 +1,92 @@
+// Numbers read from a file, and what a call gave beside them.
+ghost use Rattle.replay.specs.Counts.{Counts};
+
+// The next number: eight bytes, the lowest first; 0 past the end.
+pub fn word(fd: i32) -> u64 {
+    let mut bytes = [0u8; 8];
+    io::read_full(fd, &mut bytes);
+    records::number_at(&bytes, 0)
+}
+
+pub fn float(fd: i32) -> f64 {
+    let mut bytes = [0u8; 8];
+    io::read_full(fd, &mut bytes);
+    records::float_at(&bytes, 0)
+}
+
+// A list with its length in front, as much of it as fits, and how much that is.
+pub fn floats(fd: i32, to: &mut [f64]) -> usize
+    ensures { λ r. ⌜ Counts r (now (to .exit)) ⌝ }
+{
+    let mut left = word(fd);
+    let mut n = 0;
+    while n < to.len() && left > 0 {
+        to[n] = float(fd);
+        n += 1;
+        left -= 1;
+    }
+    n
+}
+
+// The same by ==; any two NaNs are the same.
+pub fn same(a: f64, b: f64) -> bool {
+    a == b || (a != a && b != b)
+}
+
+// Whether the first `count` numbers of a list are the next ones of the file, which are read.
+pub fn same_numbers(fd: i32, got: &[u64], count: u64) -> bool {
+    let mut all = true;
+    let mut i = 0;
+    let mut left = count;
+    while left > 0 {
+        let next = word(fd);
+        if i < got.len() {
+            all = all && got[i] == next;
+            i += 1;
+        } else {
+            all = false;
+        }
+        left -= 1;
+    }
+    all
+}
+
+pub fn same_floats(fd: i32, got: &[f64], count: u64) -> bool {
+    let mut all = true;
+    let mut i = 0;
+    let mut left = count;
+    while left > 0 {
+        let next = float(fd);
+        if i < got.len() {
+            all = all && same(got[i], next);
+            i += 1;
+        } else {
+            all = false;
+        }
+        left -= 1;
+    }
+    all
+}
+
+// Whether a number is among the next `count` of the file, which are read.
+pub fn among(fd: i32, number: u64, count: u64) -> bool {
+    let mut any = false;
+    let mut left = count;
+    while left > 0 {
+        let next = word(fd);
+        any = any || next == number;
+        left -= 1;
+    }
+    any
+}
+
+// One more entry of a kind.
+pub fn tally(counts: &mut [u64; 20], kind: u64, agrees: bool) {
+    if kind < 10 {
+        let at = kind as usize;
+        counts[at] = std::num::wrapping_add_u64(counts[at], 1);
+        if !agrees {
+            counts[at + 10] = std::num::wrapping_add_u64(counts[at + 10], 1);
+        }
+    }
+}

@@ -1,0 +1,318 @@
+// Sheets, insertions, searches, listings, tables and distances.
+use crate::compared;
+
+// What a result holds before a call that may write it.
+const BEFORE: f64 = -12345.5;
+
+// A distance of a kind: 0 between points, 1 to a line, 2 to a circle, 3 to a cylinder.
+fn measured(kind: u64, a: &[f64], b: &[f64], c: &[f64], radius: f64, d: &mut f64) -> u64 {
+    if kind == 0 {
+        return capi::gemlab_point_point_distance(a, b, d);
+    }
+    if kind == 1 {
+        return capi::gemlab_point_line_distance(a, b, c, d);
+    }
+    if kind == 2 {
+        return capi::gemlab_point_circle_distance(a, radius, b, d);
+    }
+    capi::gemlab_point_cylinder_distance(a, b, radius, c, d)
+}
+
+fn distance(fd: i32) -> bool {
+    let kind = compared::word(fd);
+    let mut a = [0.0; 4];
+    let na = compared::floats(fd, &mut a);
+    let mut b = [0.0; 4];
+    let nb = compared::floats(fd, &mut b);
+    let mut c = [0.0; 4];
+    let nc = compared::floats(fd, &mut c);
+    let radius = compared::float(fd);
+    let mut d = BEFORE;
+    let number = measured(kind, &a[..na], &b[..nb], &c[..nc], radius, &mut d);
+    let expected = compared::word(fd);
+    if expected == 0 {
+        let next = compared::float(fd);
+        number == 0 && compared::same(d, next)
+    } else {
+        number == expected && compared::same(d, BEFORE)
+    }
+}
+
+fn sheet(fd: i32, numbers: &mut [u64], floats: &mut [f64]) -> bool {
+    let mut low = [0.0; 4];
+    let nl = compared::floats(fd, &mut low);
+    let mut high = [0.0; 4];
+    let nh = compared::floats(fd, &mut high);
+    let ndiv_given = compared::word(fd);
+    let ndiv = compared::word(fd);
+    let tolerance_given = compared::word(fd);
+    let tolerance = compared::float(fd);
+    let border_given = compared::word(fd);
+    let border = compared::float(fd);
+    let number = capi::gemlab_grid_search_new(
+        &low[..nl],
+        &high[..nh],
+        ndiv_given,
+        ndiv,
+        tolerance_given,
+        tolerance,
+        border_given,
+        border,
+        numbers,
+        floats,
+    );
+    let expected = compared::word(fd);
+    if expected != 0 {
+        return number == expected;
+    }
+    let same_numbers = compared::same_numbers(fd, numbers, 8);
+    let same_floats = compared::same_floats(fd, floats, 17);
+    number == 0 && same_numbers && same_floats
+}
+
+fn insertion(
+    fd: i32,
+    numbers: &[u64],
+    floats: &[f64],
+    keys: &mut [u64],
+    ids: &mut [u64],
+    xs: &mut [f64],
+    ys: &mut [f64],
+    zs: &mut [f64],
+    used: &mut u64,
+) -> bool {
+    let id = compared::word(fd);
+    let mut x = [0.0; 4];
+    let n = compared::floats(fd, &mut x);
+    let number = capi::gemlab_grid_search_insert(
+        numbers,
+        floats,
+        keys,
+        ids,
+        xs,
+        ys,
+        zs,
+        used,
+        id,
+        &x[..n],
+    );
+    let expected = compared::word(fd);
+    let rows = compared::word(fd);
+    number == expected && *used == rows
+}
+
+fn search(
+    fd: i32,
+    numbers: &[u64],
+    floats: &[f64],
+    keys: &[u64],
+    ids: &[u64],
+    xs: &[f64],
+    ys: &[f64],
+    zs: &[f64],
+    used: u64,
+) -> bool {
+    let mut x = [0.0; 4];
+    let n = compared::floats(fd, &mut x);
+    let mut found = 7;
+    let mut id = 0;
+    let number = capi::gemlab_grid_search_search(
+        numbers,
+        floats,
+        keys,
+        ids,
+        xs,
+        ys,
+        zs,
+        used,
+        &x[..n],
+        &mut found,
+        &mut id,
+    );
+    let expected = compared::word(fd);
+    if expected != 0 {
+        return number == expected && found == 7;
+    }
+    let count = compared::word(fd);
+    if count == 0 {
+        return number == 0 && found == 0;
+    }
+    let possible = compared::among(fd, id, count);
+    number == 0 && found == 1 && possible
+}
+
+fn listing(
+    fd: i32,
+    numbers: &[u64],
+    floats: &[f64],
+    keys: &[u64],
+    ids: &[u64],
+    xs: &[f64],
+    ys: &[f64],
+    zs: &[f64],
+    used: u64,
+) -> bool {
+    let place = compared::word(fd);
+    let mut a = [0.0; 4];
+    let na = compared::floats(fd, &mut a);
+    let mut b = [0.0; 4];
+    let nb = compared::floats(fd, &mut b);
+    let number = compared::float(fd);
+    let filter = compared::word(fd);
+    let axis = compared::word(fd);
+    let low = compared::float(fd);
+    let high = compared::float(fd);
+    let mut list = [0u64; 64];
+    let mut count = 0;
+    let given = capi::gemlab_grid_search_list(
+        numbers,
+        floats,
+        keys,
+        ids,
+        xs,
+        ys,
+        zs,
+        used,
+        place,
+        &a[..na],
+        &b[..nb],
+        number,
+        filter,
+        axis,
+        low,
+        high,
+        &mut list,
+        &mut count,
+    );
+    let expected = compared::word(fd);
+    if expected != 0 {
+        return given == expected;
+    }
+    let n = compared::word(fd);
+    let same = compared::same_numbers(fd, &list, n);
+    given == 0 && count == n && same
+}
+
+// The rows in use, column by column.
+fn table(
+    fd: i32,
+    keys: &[u64],
+    ids: &[u64],
+    xs: &[f64],
+    ys: &[f64],
+    zs: &[f64],
+    used: u64,
+) -> bool {
+    let n = compared::word(fd);
+    let same_keys = compared::same_numbers(fd, keys, n);
+    let same_ids = compared::same_numbers(fd, ids, n);
+    let same_xs = compared::same_floats(fd, xs, n);
+    let same_ys = compared::same_floats(fd, ys, n);
+    let same_zs = compared::same_floats(fd, zs, n);
+    used == n && same_keys && same_ids && same_xs && same_ys && same_zs
+}
+
+// One entry of the file: false at the end.
+fn turn(
+    fd: i32,
+    numbers: &mut [u64],
+    floats: &mut [f64],
+    keys: &mut [u64],
+    ids: &mut [u64],
+    xs: &mut [f64],
+    ys: &mut [f64],
+    zs: &mut [f64],
+    used: &mut u64,
+    counts: &mut [u64; 20],
+) -> bool {
+    let kind = compared::word(fd);
+    if kind == 1 {
+        *used = 0;
+        compared::tally(counts, kind, sheet(fd, numbers, floats));
+        return true;
+    }
+    if kind == 2 {
+        let agrees = insertion(fd, numbers, floats, keys, ids, xs, ys, zs, used);
+        compared::tally(counts, kind, agrees);
+        return true;
+    }
+    if kind == 3 {
+        let agrees = search(fd, numbers, floats, keys, ids, xs, ys, zs, *used);
+        compared::tally(counts, kind, agrees);
+        return true;
+    }
+    if kind == 4 {
+        let agrees = listing(fd, numbers, floats, keys, ids, xs, ys, zs, *used);
+        compared::tally(counts, kind, agrees);
+        return true;
+    }
+    if kind == 5 {
+        let agrees = table(fd, keys, ids, xs, ys, zs, *used);
+        compared::tally(counts, kind, agrees);
+        return true;
+    }
+    if kind == 6 {
+        compared::tally(counts, kind, distance(fd));
+        return true;
+    }
+    false
+}
+
+// The entries of a file. A proved loop has to end, so it counts its turns down from a number that no run uses up.
+fn entries(
+    fd: i32,
+    numbers: &mut [u64],
+    floats: &mut [f64],
+    keys: &mut [u64],
+    ids: &mut [u64],
+    xs: &mut [f64],
+    ys: &mut [f64],
+    zs: &mut [f64],
+    counts: &mut [u64; 20],
+) {
+    let mut used = 0;
+    let mut turns = u64::MAX;
+    while turns > 0
+        && turn(
+            fd,
+            numbers,
+            floats,
+            keys,
+            ids,
+            xs,
+            ys,
+            zs,
+            &mut used,
+            counts,
+        )
+    {
+        turns -= 1;
+    }
+}
+
+pub fn replay(path: &[u8], counts: &mut [u64; 20]) {
+    let fd = os::open_read(path);
+    if fd < 0 {
+        os::fail(path);
+        return;
+    }
+    let mut numbers = [0u64; 8];
+    let mut floats = [0.0; 17];
+    let mut keys = [0u64; 512];
+    let mut ids = [0u64; 512];
+    let mut xs = [0.0; 512];
+    let mut ys = [0.0; 512];
+    let mut zs = [0.0; 512];
+    entries(
+        fd,
+        &mut numbers,
+        &mut floats,
+        &mut keys,
+        &mut ids,
+        &mut xs,
+        &mut ys,
+        &mut zs,
+        counts,
+    );
+    libc::close(fd);
+}
