@@ -1,6 +1,7 @@
 //! Finds gemlab's source and the static libraries of this repository.
 //!
-//! gemlab's source is the folder that GEMLAB_SRC names, and else ../shared/docs/src from the repository's root.
+//! gemlab's source is the folder that GEMLAB_SRC names, and else ../shared/docs/src from the repository's root. The static
+//! libraries are in the folder that HRBOTAJ_LIB names, and else in target/staticlib.
 
 use std::env;
 use std::fs;
@@ -19,10 +20,14 @@ fn main() {
     println!("cargo:rustc-env=GEMLAB={}", source.display());
 
     // every archive that is built is linked: what they share stays private to each
-    let folder = root.join("target/staticlib");
+    let folder = match env::var_os("HRBOTAJ_LIB") {
+        Some(folder) => PathBuf::from(folder),
+        None => root.join("target/staticlib"),
+    };
+    println!("cargo:rerun-if-env-changed=HRBOTAJ_LIB");
     println!("cargo:rerun-if-changed={}", folder.display());
     let mut archives: Vec<_> = fs::read_dir(&folder)
-        .unwrap_or_else(|e| panic!("{}: {e}; run `rt staticlib probe` first", folder.display()))
+        .unwrap_or_else(|e| panic!("{}: {e}; run `./staticlib probe capi` first", folder.display()))
         .map(|entry| entry.unwrap().path())
         .filter(|path| path.extension().is_some_and(|x| x == "a"))
         .collect();

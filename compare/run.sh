@@ -4,14 +4,8 @@
 # GEMLAB_SRC names the folder of gemlab's source, where that is not ../shared/docs/src from the repository's root.
 set -eu
 cd "$(dirname "$0")/.."
-for name in probe capi; do
-    if grep -q "^$name:" crates.txt; then
-        said=$(rt staticlib "$name" 2>&1) || {
-            echo "$said"
-            exit 1
-        }
-    fi
-done
+HRBOTAJ_LIB=$(./staticlib probe capi)
+export HRBOTAJ_LIB
 cd compare
 cargo build --release --offline --quiet
 failed=0

@@ -1,5 +1,5 @@
-//! What gemlab answers, stored in files of this repository: the text that `positions` has to write, and the list of answers
-//! that the program `replay` goes through. Nothing of the library is called here.
+//! What gemlab answers, stored in files of this repository: the texts that `positions` and the C program `survey.c` have
+//! to write, and the list of answers that the program `replay` goes through. Nothing of the library is called here.
 //!
 //! `stored check` says whether each file is what gemlab gives today; `stored write` writes them.
 
@@ -10,6 +10,7 @@ mod positions;
 #[path = "../src/random.rs"]
 mod random;
 mod replay;
+mod survey;
 mod words;
 
 use std::fs;
@@ -24,6 +25,7 @@ const STORED: &[(&str, Made)] = &[
     ("crates/positions/stdout", positions::text),
     ("crates/replay/stdout", replay::text),
     ("crates/replay/data/libraries.bin", replay::libraries_file),
+    ("examples/survey.expected", survey::text),
 ];
 
 fn main() -> ExitCode {
