@@ -202,6 +202,45 @@ static void full(void)
     printf("marks in a full library: %" PRIu64 ", from %" PRIu64 " to %" PRIu64 "\n", count, full_list[0], full_list[FULL - 1]);
 }
 
+/* Two triangles of a square, and a small one beside it. */
+static const double mesh_coords[12] = {0, 0, 4, 0, 4, 4, 0, 4, 5, 0, 5, 1};
+static const uint32_t mesh_corners[9] = {0, 1, 2, 0, 2, 3, 1, 4, 5};
+static uint64_t cell_keys[12], cell_cells[12], cell_large[4];
+static uint64_t cells_numbers[GEMLAB_CELLS_NUMBERS];
+static double cells_floats[GEMLAB_CELLS_FLOATS];
+
+/* The index of the first `count` of these cells, of which the first `space` rows are lent. */
+static void build(const char *what, size_t count, uint64_t pct_given, double pct, size_t space)
+{
+    uint64_t number = gemlab_grid_cells_new(2, mesh_coords, 12, mesh_corners, 3 * count, 0, 0, 0, 0, 0, 0, pct_given, pct,
+                                            cell_keys, space, cell_cells, space, cell_large, 4,
+                                            cells_numbers, GEMLAB_CELLS_NUMBERS, cells_floats, GEMLAB_CELLS_FLOATS);
+
+    if (number != 0) {
+        printf("%s: refused %" PRIu64 "\n", what, number);
+        return;
+    }
+    printf("%s: side %g, divisions %" PRIu64 " and %" PRIu64 ", rows", what, cells_floats[0], cells_numbers[1], cells_numbers[2]);
+    for (uint64_t i = 0; i < cells_numbers[4]; i++) {
+        printf(" %" PRIu64 ":%" PRIu64, cell_keys[i], cell_cells[i]);
+    }
+    printf(", large");
+    for (uint64_t i = 0; i < cells_numbers[5]; i++) {
+        printf(" %" PRIu64, cell_large[i]);
+    }
+    printf("\n");
+}
+
+static void cells(void)
+{
+    build("index of one triangle, percentage 1", 1, 1, 1, 12);
+    build("index of one triangle", 1, 0, 0, 12);
+    build("index of three triangles, 3 rows lent", 3, 0, 0, 3);
+    build("index of three triangles", 3, 0, 0, 12);
+    build("index of no triangle", 0, 0, 0, 12);
+    build("index of three triangles, percentage 1", 3, 1, 1, 12);
+}
+
 int main(void)
 {
     distances();
@@ -209,5 +248,6 @@ int main(void)
     libraries();
     lists();
     full();
+    cells();
     return 0;
 }

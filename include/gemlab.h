@@ -265,6 +265,56 @@ uint64_t gemlab_grid_search_list(const uint64_t *numbers, size_t numbers_len,
                                  uint64_t *list, size_t list_len,
                                  uint64_t *count);
 
+/*
+ * A cell index.
+ *
+ * A mesh is a list of coordinates, coords, 2 or 3 for each point, and a list of point numbers, corners,
+ * 3 for each triangle in 2D and 4 for each tetrahedron in 3D. It has at most 65,536 points and cells.
+ *
+ * An index divides a box around the mesh into containers of one side. It stands in two lists of the
+ * caller's, 6 numbers and 7 floats:
+ *
+ *     numbers  0      dimension
+ *              1..3   divisions along x, y, z (z: 1 in 2D)
+ *              4      rows in use
+ *              5      large cells in use
+ *     floats   0      side length of a container
+ *              1..3   xmin x, y, z
+ *              4..6   xmax x, y, z: xmin plus side times divisions (z: +0 in 2D)
+ *
+ * and its rows, one for each container and cell in strict order of key, then cell, in two lists of one
+ * length, keys and cells; and its large cells, ascending, in the list large. Entries past the counts
+ * may have any content. Each list has at most 65,536 entries.
+ */
+#define GEMLAB_CELLS_NUMBERS 6
+#define GEMLAB_CELLS_FLOATS 7
+
+/*
+ * The index of a mesh, into the five lists. A cell is large if the largest length of its bounding box
+ * is at least large_cutoff times the largest of all. If at most the part large_pct of the cells is
+ * large, these go to the list large; else none counts as large. Each other cell gets a row in every
+ * container that a corner of its bounding box falls into. The side of a container is the largest length
+ * of these cells plus twice the tolerance, and the border widens the box around the mesh. Entries past
+ * the new counts stay.
+ *
+ * Settings left out are tolerance 1e-4, border 1e-2, cutoff 0.75 and percentage 0.2 (a part of 1).
+ * Refusals: 1, 24 (more than 65,536 points, cells, rows or large cells in a lent list), 13 (keys and
+ * cells differ in length, or an index list is not of its length), 19, 3 (of every coordinate, used or
+ * not, and of the settings), 8, 9, 20, 21, 18, 23, 22, 6, 17, 12 (of the rows or the large cells).
+ */
+uint64_t gemlab_grid_cells_new(uint64_t ndim,
+                               const double *coords, size_t coords_len,
+                               const uint32_t *corners, size_t corners_len,
+                               uint64_t tolerance_given, double tolerance,
+                               uint64_t border_tol_given, double border_tol,
+                               uint64_t large_cutoff_given, double large_cutoff,
+                               uint64_t large_pct_given, double large_pct,
+                               uint64_t *keys, size_t keys_len,
+                               uint64_t *cells, size_t cells_len,
+                               uint64_t *large, size_t large_len,
+                               uint64_t *numbers, size_t numbers_len,
+                               double *floats, size_t floats_len);
+
 #ifdef __cplusplus
 }
 #endif

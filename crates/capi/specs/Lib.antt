@@ -3,5 +3,7 @@ pub mod Answers
 pub mod Sheets
 -- Laws of these.
 pub mod SheetLaws
+-- Libraries, listings, and the cell index in two lists.
 pub mod Libraries
 pub mod Lists
+pub mod Cells

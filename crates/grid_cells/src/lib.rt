@@ -11,7 +11,7 @@ ghost use Rattle.grid_cells.specs.Build.{cutoffOf, percentageOf, setting
 ghost use Rattle.grid_cells.specs.Steps.{finishOf};
 
 mod frame;
-mod refusals;
+pub mod refusals;
 
 use cell_rows::Containers;
 use cell_rows::Keys;
