@@ -1,0 +1,2 @@
+-- What is claimed of an index that the build wrote.
+pub mod Claims
