@@ -7,9 +7,11 @@
 #[allow(dead_code)]
 #[path = "../../bindings/src/c.rs"]
 mod c;
+mod cells;
 mod floats;
 mod geometry;
 mod listing;
+mod meshes;
 mod near;
 mod random;
 mod rows;
@@ -31,6 +33,7 @@ const PARTS: &[(&str, fn(&mut Tally))] = &[
     ("bench-rows", rows::measure),
     ("listing", listing::compare),
     ("bench-listing", listing::measure),
+    ("cells", cells::compare),
 ];
 
 fn main() -> ExitCode {
