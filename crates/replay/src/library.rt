@@ -212,9 +212,10 @@ fn table(
     used == n && same_keys && same_ids && same_xs && same_ys && same_zs
 }
 
-// One entry of the file: false at the end.
-fn turn(
+// A call that changes the library: a new sheet, which empties it, or an insertion.
+fn change(
     fd: i32,
+    kind: u64,
     numbers: &mut [u64],
     floats: &mut [f64],
     keys: &mut [u64],
@@ -223,44 +224,43 @@ fn turn(
     ys: &mut [f64],
     zs: &mut [f64],
     used: &mut u64,
-    counts: &mut [u64; 20],
 ) -> bool {
-    let kind = compared::word(fd);
     if kind == 1 {
         *used = 0;
-        compared::tally(counts, kind, sheet(fd, numbers, floats));
-        return true;
+        return sheet(fd, numbers, floats);
     }
-    if kind == 2 {
-        let agrees = insertion(fd, numbers, floats, keys, ids, xs, ys, zs, used);
-        compared::tally(counts, kind, agrees);
-        return true;
-    }
-    if kind == 3 {
-        let agrees = search(fd, numbers, floats, keys, ids, xs, ys, zs, *used);
-        compared::tally(counts, kind, agrees);
-        return true;
-    }
-    if kind == 4 {
-        let agrees = listing(fd, numbers, floats, keys, ids, xs, ys, zs, *used);
-        compared::tally(counts, kind, agrees);
-        return true;
-    }
-    if kind == 5 {
-        let agrees = table(fd, keys, ids, xs, ys, zs, *used);
-        compared::tally(counts, kind, agrees);
-        return true;
-    }
-    if kind == 6 {
-        compared::tally(counts, kind, distance(fd));
-        return true;
-    }
-    false
+    insertion(fd, numbers, floats, keys, ids, xs, ys, zs, used)
 }
 
-// The entries of a file. A proved loop has to end, so it counts its turns down from a number that no run uses up.
-fn entries(
+// A call that leaves the library as it is.
+fn question(
     fd: i32,
+    kind: u64,
+    numbers: &[u64],
+    floats: &[f64],
+    keys: &[u64],
+    ids: &[u64],
+    xs: &[f64],
+    ys: &[f64],
+    zs: &[f64],
+    used: u64,
+) -> bool {
+    if kind == 3 {
+        return search(fd, numbers, floats, keys, ids, xs, ys, zs, used);
+    }
+    if kind == 4 {
+        return listing(fd, numbers, floats, keys, ids, xs, ys, zs, used);
+    }
+    if kind == 5 {
+        return table(fd, keys, ids, xs, ys, zs, used);
+    }
+    distance(fd)
+}
+
+// One entry of the file: whether it agrees.
+fn entry(
+    fd: i32,
+    kind: u64,
     numbers: &mut [u64],
     floats: &mut [f64],
     keys: &mut [u64],
@@ -268,24 +268,42 @@ fn entries(
     xs: &mut [f64],
     ys: &mut [f64],
     zs: &mut [f64],
-    counts: &mut [u64; 20],
-) {
+    used: &mut u64,
+) -> bool {
+    if kind <= 2 {
+        return change(fd, kind, numbers, floats, keys, ids, xs, ys, zs, used);
+    }
+    question(fd, kind, numbers, floats, keys, ids, xs, ys, zs, *used)
+}
+
+// The entries of a file, up to the kind 0. A proved loop has to end, so it counts its turns down from a number that no
+// run uses up.
+fn entries(fd: i32, counts: &mut [u64; 20]) {
+    let mut numbers = [0u64; 8];
+    let mut floats = [0.0; 17];
+    let mut keys = [0u64; 512];
+    let mut ids = [0u64; 512];
+    let mut xs = [0.0; 512];
+    let mut ys = [0.0; 512];
+    let mut zs = [0.0; 512];
     let mut used = 0;
+    let mut kind = compared::word(fd);
     let mut turns = u64::MAX;
-    while turns > 0
-        && turn(
+    while turns > 0 && kind > 0 {
+        let agrees = entry(
             fd,
-            numbers,
-            floats,
-            keys,
-            ids,
-            xs,
-            ys,
-            zs,
+            kind,
+            &mut numbers,
+            &mut floats,
+            &mut keys,
+            &mut ids,
+            &mut xs,
+            &mut ys,
+            &mut zs,
             &mut used,
-            counts,
-        )
-    {
+        );
+        compared::tally(counts, kind, agrees);
+        kind = compared::word(fd);
         turns -= 1;
     }
 }
@@ -296,23 +314,6 @@ pub fn replay(path: &[u8], counts: &mut [u64; 20]) {
         os::fail(path);
         return;
     }
-    let mut numbers = [0u64; 8];
-    let mut floats = [0.0; 17];
-    let mut keys = [0u64; 512];
-    let mut ids = [0u64; 512];
-    let mut xs = [0.0; 512];
-    let mut ys = [0.0; 512];
-    let mut zs = [0.0; 512];
-    entries(
-        fd,
-        &mut numbers,
-        &mut floats,
-        &mut keys,
-        &mut ids,
-        &mut xs,
-        &mut ys,
-        &mut zs,
-        counts,
-    );
+    entries(fd, counts);
     libc::close(fd);
 }

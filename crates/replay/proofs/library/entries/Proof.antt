@@ -6,18 +6,48 @@ use Rattle.replay.proofs.library.entries.Statement.{statement}
 use Rattle.replay.proofs.library.entries.Tie as tie
 
 abbrev Inv-loop : tie.InvT-loop
-Inv-loop fd numbers₀ floats₀ keys₀ ids₀ xs₀ ys₀ zs₀ counts₀ used₀ turns₀ numbers floats keys ids xs ys zs counts used turns =
-    (length numbers ≡ length numbers₀) × (length floats ≡ length floats₀) × (length keys ≡ length keys₀) × (length ids ≡ length ids₀) × (length xs ≡ length xs₀) × (length ys ≡ length ys₀) × (length zs ≡ length zs₀)
+Inv-loop fd counts₀ numbers₀ floats₀ keys₀ ids₀ xs₀ ys₀ zs₀ used₀ kind₀ turns₀ counts numbers floats keys ids xs ys zs used kind turns =
+    (length numbers ≡ 8) × (length floats ≡ 17) × (length keys ≡ 512) × (length ids ≡ 512) × (length xs ≡ 512) × (length ys ≡ 512) × (length zs ≡ 512)
 
 abbrev μ-loop : tie.MeasureT-loop
-μ-loop fd numbers₀ floats₀ keys₀ ids₀ xs₀ ys₀ zs₀ counts₀ used₀ turns₀ numbers floats keys ids xs ys zs counts used turns =
+μ-loop fd counts₀ numbers₀ floats₀ keys₀ ids₀ xs₀ ys₀ zs₀ used₀ kind₀ turns₀ counts numbers floats keys ids xs ys zs used kind turns =
     turns
+
+word-requires : tie.Need-word-requires Inv-loop μ-loop
+word-requires c κs = search needs
 
 loop-holds : tie.Need-loop-holds Inv-loop μ-loop
 loop-holds c = search needs
 
-turn-requires : tie.Need-turn-requires Inv-loop μ-loop
-turn-requires c κs = search needs
+slice-aggregate-entry : tie.Need-slice-aggregate-entry Inv-loop μ-loop
+slice-aggregate-entry c = search needs
+
+slice-aggregate-entry-2 : tie.Need-slice-aggregate-entry-2 Inv-loop μ-loop
+slice-aggregate-entry-2 c = search needs
+
+slice-aggregate-entry-3 : tie.Need-slice-aggregate-entry-3 Inv-loop μ-loop
+slice-aggregate-entry-3 c = search needs
+
+slice-aggregate-entry-4 : tie.Need-slice-aggregate-entry-4 Inv-loop μ-loop
+slice-aggregate-entry-4 c = search needs
+
+slice-aggregate-entry-5 : tie.Need-slice-aggregate-entry-5 Inv-loop μ-loop
+slice-aggregate-entry-5 c = search needs
+
+slice-aggregate-entry-6 : tie.Need-slice-aggregate-entry-6 Inv-loop μ-loop
+slice-aggregate-entry-6 c = search needs
+
+slice-aggregate-entry-7 : tie.Need-slice-aggregate-entry-7 Inv-loop μ-loop
+slice-aggregate-entry-7 c = search needs
+
+entry-requires : tie.Need-entry-requires Inv-loop μ-loop
+entry-requires c κs = search needs
+
+tally-requires : tie.Need-tally-requires Inv-loop μ-loop
+tally-requires c κs = search needs
+
+word-requires-2 : tie.Need-word-requires-2 Inv-loop μ-loop
+word-requires-2 c κs = search needs
 
 sub-turns : tie.Need-sub-turns Inv-loop μ-loop
 sub-turns c = search needs
@@ -28,50 +58,8 @@ loop-less c = search needs
 loop-again : tie.Need-loop-again Inv-loop μ-loop
 loop-again c = search needs
 
-same-length : tie.Need-same-length Inv-loop μ-loop
-same-length c = search needs
-
-same-length-2 : tie.Need-same-length-2 Inv-loop μ-loop
-same-length-2 c = search needs
-
-same-length-3 : tie.Need-same-length-3 Inv-loop μ-loop
-same-length-3 c = search needs
-
-same-length-4 : tie.Need-same-length-4 Inv-loop μ-loop
-same-length-4 c = search needs
-
-same-length-5 : tie.Need-same-length-5 Inv-loop μ-loop
-same-length-5 c = search needs
-
-same-length-6 : tie.Need-same-length-6 Inv-loop μ-loop
-same-length-6 c = search needs
-
-same-length-7 : tie.Need-same-length-7 Inv-loop μ-loop
-same-length-7 c = search needs
-
 returns : tie.Need-returns Inv-loop μ-loop
 returns c = search needs
-
-same-length-8 : tie.Need-same-length-8 Inv-loop μ-loop
-same-length-8 c = search needs
-
-same-length-9 : tie.Need-same-length-9 Inv-loop μ-loop
-same-length-9 c = search needs
-
-same-length-10 : tie.Need-same-length-10 Inv-loop μ-loop
-same-length-10 c = search needs
-
-same-length-11 : tie.Need-same-length-11 Inv-loop μ-loop
-same-length-11 c = search needs
-
-same-length-12 : tie.Need-same-length-12 Inv-loop μ-loop
-same-length-12 c = search needs
-
-same-length-13 : tie.Need-same-length-13 Inv-loop μ-loop
-same-length-13 c = search needs
-
-same-length-14 : tie.Need-same-length-14 Inv-loop μ-loop
-same-length-14 c = search needs
 
 returns-2 : tie.Need-returns-2 Inv-loop μ-loop
 returns-2 c = search needs
@@ -82,24 +70,20 @@ entries-spec =
     (tie.spec
     Inv-loop
     μ-loop
+    word-requires
     loop-holds
-    turn-requires
+    slice-aggregate-entry
+    slice-aggregate-entry-2
+    slice-aggregate-entry-3
+    slice-aggregate-entry-4
+    slice-aggregate-entry-5
+    slice-aggregate-entry-6
+    slice-aggregate-entry-7
+    entry-requires
+    tally-requires
+    word-requires-2
     sub-turns
     loop-less
     loop-again
-    same-length
-    same-length-2
-    same-length-3
-    same-length-4
-    same-length-5
-    same-length-6
-    same-length-7
     returns
-    same-length-8
-    same-length-9
-    same-length-10
-    same-length-11
-    same-length-12
-    same-length-13
-    same-length-14
     returns-2)
