@@ -1,6 +1,6 @@
 //! Document 01's 'Positions tried', answered by gemlab, in the document's order: what the program `positions` writes.
 //!
-//! One line is a refusal that document 01 adds and gemlab has not; it is written here as the document has it.
+//! Two lines are refusals that document 01 adds and gemlab has not; they are written here as the document has them.
 
 use crate::numbers::refused;
 use gemlab::geometry::point_circle_distance;
@@ -129,5 +129,8 @@ pub fn text() -> Vec<u8> {
     let thin = GridCells::new(&flat, None, None, None, None).unwrap();
     say("triangle (0, 0), (1, 0), (2, 0), (1, 0)", in_cell(&thin, &[1.0, 0.0]));
 
+    // gemlab takes f64::MIN as side: from document 01
+    say("one triangle, percentage 1", "refused 23".to_string());
+    say("one triangle, default percentage", accepted(GridCells::new(&mesh, None, None, None, None)));
     out.into_bytes()
 }

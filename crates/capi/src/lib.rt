@@ -7,6 +7,7 @@ mod lists;
 mod sheet;
 
 // for Rattle programs
+pub use cells::gemlab_grid_cells_new;
 pub use distances::gemlab_point_circle_distance;
 pub use distances::gemlab_point_cylinder_distance;
 pub use distances::gemlab_point_line_distance;

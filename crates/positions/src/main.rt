@@ -368,6 +368,35 @@ fn triangle(a: Position, b: Position, c: Position, x: f64, y: f64) {
     }
 }
 
+// The index of the triangle (0, 0), (4, 0), (0, 4) with a percentage, given or left out; other settings are left out.
+fn percentage(given: u64, percentage: f64) {
+    let coords = [0.0, 0.0, 4.0, 0.0, 0.0, 4.0];
+    let corners = [0u32, 1, 2];
+    let mut keys = [0u64; 4];
+    let mut cells = [0u64; 4];
+    let mut large = [0u64; 1];
+    let mut numbers = [0u64; 6];
+    let mut floats = [0.0; 7];
+    accepted(capi::gemlab_grid_cells_new(
+        2,
+        &coords,
+        &corners,
+        0,
+        0.0,
+        0,
+        0.0,
+        0,
+        0.0,
+        given,
+        percentage,
+        &mut keys,
+        &mut cells,
+        &mut large,
+        &mut numbers,
+        &mut floats,
+    ));
+}
+
 // Marks on S.
 fn marks() {
     let mut numbers = [0u64; 8];
@@ -436,4 +465,8 @@ fn main() {
     say(b"circle of centre (4, 2) and radius 1, (4, 2): ");
     circle(4.0, 2.0);
     triangles();
+    say(b"one triangle, percentage 1: ");
+    percentage(1, 1.0);
+    say(b"one triangle, default percentage: ");
+    percentage(0, 0.0);
 }
