@@ -1,22 +1,20 @@
 -- The cell at a position, over the rows and the mesh handed in, and what turns a search away.
 -- Assumes nothing.
 use Prim.Native.Nat.{ℕ, _+_}
-use mathlib.Core.Bool.{Bool, true, false, cond, not, _&&_, _||_}
+use mathlib.Core.Bool.{Bool, true, cond, not, _&&_, _||_}
 use mathlib.Core.Option.{Option, none, some}
 use mathlib.Core.List.{List, [], _∷_, _++_, map}
 use lib.Dec.{ltb, leb, eqb}
-use lib.ListN.{length, take, getD}
-use lib.Ieee.{Float, nan, lt, le}
-use Rattle.basics.specs.Lists.{all, any, keep, over, tab}
+use lib.ListN.{length, take}
+use lib.Ieee.{Float, le}
+use Rattle.basics.specs.Lists.{all, any, keep, over}
 use Rattle.basics.specs.Refusals.{Test, refuse, fault, Answer, refused, success}
 use Rattle.floats.specs.Rounded.{zeroF, pow2, pow2⁻}
 use Rattle.floats.specs.Tests.{within}
-use Rattle.geometry.specs.declared.Position.{Position}
-use Rattle.geometry.specs.Position.{coords, positionOf, dimension, coordinate}
-use Rattle.geometry.specs.declared.Zeta.{Zeta}
-use Rattle.geometry.specs.Cells.{zetas, triangleCoords, tetrahedronCoords, inside}
+use Rattle.geometry.specs.Position.{coords, dimension, coordinate}
+use Rattle.geometry.specs.Cells.{zetas}
 use Rattle.grid.specs.Divisions.{counts}
-use Rattle.grid.specs.Containers.{outside, ratios, exceed, keyOf, containers}
+use Rattle.grid.specs.Containers.{outside, containers}
 use Rattle.mesh.specs.Mesh.{Mesh, cellCount, meshTooLong, brokenMesh, cornerPoints}
 use Rattle.mesh.specs.Cell.{cellZeta, contains}
 use Rattle.table.specs.Rows.{Slot, sorted, slotsOf}
@@ -128,3 +126,7 @@ abbrev pub foundCell : FoundCell → Answer (Option ℕ)
 foundCell (Cell c) = success (some (c .0))
 foundCell Nothing = success none
 foundCell (Refused n) = refused n
+
+-- an answer, and the coordinate list at exit
+abbrev pub leaves : FoundCell → List Float → CellSearch
+leaves r zeta = record { answer = foundCell r; zeta = zeta }

@@ -1,9 +1,192 @@
 // Module 10: the cell at a position. From `GridCells::search` of gemlab's `mesh/grid_cells.rs`, over plain slices.
+ghost use Prim.Native.Nat.{_+_, _<_};
+ghost use mathlib.Core.Path.{_≡_};
+ghost use mathlib.Core.Bool.{true, _||_};
+ghost use mathlib.Core.Option.{none};
+ghost use mathlib.Core.List.{_++_};
+ghost use lib.ListN.{length};
+ghost use lib.Seq.{slice};
+ghost use lib.Ieee.{lt};
+ghost use Rattle.basics.specs.Lists.{over};
+ghost use Rattle.floats.specs.Rounded.{zeroF};
+ghost use Rattle.geometry.specs.Position.{coords as axes, axisOf, dimension};
+ghost use Rattle.geometry.specs.Cells.{zetas as listed};
+ghost use Rattle.mesh.specs.Mesh.{meshOf, Whole};
+ghost use Rattle.mesh.specs.Cell.{contains};
+ghost use Rattle.table.specs.Rows.{Ordered};
+ghost use Rattle.grid_cells.specs.Build.{lentOf};
+ghost use Rattle.cell_search.specs.Search.{firstCell, cellSearch, settleSearch, leaves};
+ghost use Rattle.cell_search.specs.Steps.{Numbers, Own, Sound, tried};
+
+mod refusals;
+
+use cell_rows::Containers;
+use geometry::Position;
+use geometry::Zeta;
+use grid::Located;
 use grid_cells::CellId;
+use grid_cells::GridCells;
+use mesh::BoundingBox;
 
 // What a cell search answers.
 pub enum FoundCell {
     Cell(CellId),
     Nothing,
     Refused(u64),
+}
+
+// The entries of a list from one index up to another.
+struct Span {
+    from: usize,
+    to: usize,
+}
+
+// Writes the coordinates of a position in a cell to the lent list: in 2D the fourth entry stays.
+fn write_zeta(ndim: usize, z: Zeta, zeta: &mut [f64])
+    requires { ⌜ dimension ndim ≡ true ⌝ ∗ ⌜ length (now zeta) ≡ 4 ⌝ }
+    ensures { λ _. ⌜ now (zeta .exit) ≡ over (listed (ndim + 1) z) (now (zeta .entry)) ⌝ }
+{
+    zeta[0] = z.0;
+    zeta[1] = z.1;
+    zeta[2] = z.2;
+    if ndim == 3 {
+        zeta[3] = z.3;
+    }
+}
+
+// Whether a position is outside a bounding box on an axis.
+fn is_beyond(b: BoundingBox, x: Position, i: usize) -> bool
+    ensures { λ r. ⌜ r ≡ (lt (axisOf i x) (axisOf i (b .low)) || lt (axisOf i (b .high)) (axisOf i x)) ⌝ }
+{
+    let xi = x.axis(i);
+    xi < b.low.axis(i) || xi > b.high.axis(i)
+}
+
+// The first of cells[from..to] that contains a position, with its coordinates in the lent list.
+fn find_cell(
+    ndim: usize,
+    coords: &[f64],
+    corners: &[u32],
+    cells: &[u64],
+    from: usize,
+    to: usize,
+    x: Position,
+    zeta: &mut [f64],
+) -> FoundCell
+    requires { ⌜ Whole ndim (meshOf (now coords) (now corners)) ⌝ ∗ ⌜ Numbers ndim (meshOf (now coords) (now corners)) to (now cells) ⌝ ∗ ⌜ length (now zeta) ≡ 4 ⌝ }
+    ensures { λ r. ⌜ leaves r (now (zeta .exit)) ≡ settleSearch none ndim (meshOf (now (coords .entry)) (now (corners .entry))) (now (zeta .entry)) (axes ndim x) (firstCell (contains ndim (meshOf (now (coords .entry)) (now (corners .entry))) zeroF (axes ndim x)) (slice from to (now (cells .entry)))) ⌝ }
+{
+    'outer: for at in from..to {
+        let cell_id = cells[at];
+        let cell = cell_id as usize;
+        let b = mesh::bounding_box(ndim, coords, corners, cell);
+        for i in 0..ndim {
+            if is_beyond(b, x, i) {
+                continue 'outer; // outside the bounding box
+            }
+        }
+        let z = mesh::cell_coords(ndim, coords, corners, cell, x);
+        if mesh::in_cell(ndim, z) {
+            write_zeta(ndim, z, zeta);
+            return FoundCell::Cell(CellId(cell_id));
+        }
+    }
+    FoundCell::Nothing
+}
+
+// The first of two lists' cells that contains a position: those of the second list are tried after those of the first.
+fn find_either(
+    ndim: usize,
+    coords: &[f64],
+    corners: &[u32],
+    first: &[u64],
+    a: Span,
+    second: &[u64],
+    b: Span,
+    x: Position,
+    zeta: &mut [f64],
+) -> FoundCell
+    requires { ⌜ Whole ndim (meshOf (now coords) (now corners)) ⌝ ∗ ⌜ Numbers ndim (meshOf (now coords) (now corners)) (a .to) (now first) ⌝ ∗ ⌜ Numbers ndim (meshOf (now coords) (now corners)) (b .to) (now second) ⌝ ∗ ⌜ length (now zeta) ≡ 4 ⌝ }
+    ensures { λ r. ⌜ leaves r (now (zeta .exit)) ≡ settleSearch none ndim (meshOf (now (coords .entry)) (now (corners .entry))) (now (zeta .entry)) (axes ndim x) (firstCell (contains ndim (meshOf (now (coords .entry)) (now (corners .entry))) zeroF (axes ndim x)) (slice (a .from) (a .to) (now (first .entry)) ++ slice (b .from) (b .to) (now (second .entry)))) ⌝ }
+{
+    let found = find_cell(ndim, coords, corners, first, a.from, a.to, x, zeta);
+    let FoundCell::Nothing = found else {
+        return found;
+    };
+    find_cell(ndim, coords, corners, second, b.from, b.to, x, zeta)
+}
+
+// The rows of a container: they stand together.
+fn container_rows(keys: &[u64], cells: &[u64], used: usize, key: u64) -> Span
+    requires { ⌜ Ordered (now keys) (now cells) used ⌝ ∗ ⌜ key < 1073741824 ⌝ }
+    ensures { λ r. ⌜ Own (now (keys .entry)) (now (cells .entry)) used key r ⌝ }
+{
+    Span {
+        from: table::position(keys, cells, used, key, 0),
+        to: table::position(keys, cells, used, key + 1, 0),
+    }
+}
+
+// The first large cell that contains a position, and else the first of its container's.
+fn find(
+    grid: GridCells,
+    coords: &[f64],
+    corners: &[u32],
+    keys: &[u64],
+    cells: &[u64],
+    large: &[u64],
+    key: u64,
+    x: Position,
+    zeta: &mut [f64],
+) -> FoundCell
+    requires { ⌜ Whole (grid .ndim) (meshOf (now coords) (now corners)) ⌝ ∗ ⌜ Sound grid (meshOf (now coords) (now corners)) (lentOf (now keys) (now cells) (now large)) ⌝ ∗ ⌜ (key < 1073741824) × (length (now zeta) ≡ 4) ⌝ }
+    ensures { λ r. ⌜ leaves r (now (zeta .exit)) ≡ settleSearch none (grid .ndim) (meshOf (now (coords .entry)) (now (corners .entry))) (now (zeta .entry)) (axes (grid .ndim) x) (firstCell (contains (grid .ndim) (meshOf (now (coords .entry)) (now (corners .entry))) zeroF (axes (grid .ndim) x)) (tried grid (lentOf (now (keys .entry)) (now (cells .entry)) (now (large .entry))) key)) ⌝ }
+{
+    let ndim = grid.ndim;
+    let all = Span {
+        from: 0,
+        to: grid.large,
+    };
+    let own = container_rows(keys, cells, grid.used, key);
+    find_either(ndim, coords, corners, large, all, cells, own, x, zeta)
+}
+
+// The cell at a position, with the position's coordinates in it, or nothing, or the refusal. Large cells are tried first,
+// ascending, then those of the position's container, ascending. Nothing and a refusal leave the list of coordinates as it is.
+pub fn search(
+    grid: GridCells,
+    coords: &[f64],
+    corners: &[u32],
+    keys: &[u64],
+    cells: &[u64],
+    large: &[u64],
+    x: &[f64],
+    zeta: &mut [f64],
+) -> FoundCell
+    ensures { λ r. ⌜ leaves r (now (zeta .exit)) ≡ cellSearch grid (meshOf (now (coords .entry)) (now (corners .entry))) (lentOf (now (keys .entry)) (now (cells .entry)) (now (large .entry))) (now (zeta .entry)) (now (x .entry)) ⌝ }
+{
+    let lists = refusals::lists_refused(grid.ndim, coords, corners, keys, cells, large);
+    if lists != 0 {
+        return FoundCell::Refused(lists);
+    }
+    if !refusals::is_sound(grid, corners, keys, cells, large) {
+        return FoundCell::Refused(13);
+    }
+    let wrong = refusals::position_refused(grid, coords, x, zeta.len());
+    if wrong != 0 {
+        return FoundCell::Refused(wrong);
+    }
+    let at = Position::new(x);
+    let ndiv = grid.ndiv;
+    let xmin = grid.xmin;
+    let containers = Containers {
+        ndim: grid.ndim,
+        ndiv,
+        side_length: grid.side_length,
+        xmin,
+    };
+    let Located::Key(key) = cell_rows::container(containers, at) else {
+        return FoundCell::Refused(17);
+    };
+    find(grid, coords, corners, keys, cells, large, key.0, at, zeta)
 }

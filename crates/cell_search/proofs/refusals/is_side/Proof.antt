@@ -1,0 +1,12 @@
+-- `cell_search::refusals::is_side` meets its contract. Assumes nothing.
+use mathlib.Core.Path.{refl}
+use lib.Ieee.{ofBits}
+use Rattle.cell_search.proofs.refusals.is_side.Statement.{statement}
+use Rattle.cell_search.proofs.refusals.is_side.Tie as tie
+
+returns : tie.Need-returns
+unfolding ofBits
+returns c = refl
+
+pub is-side-spec : {M : Type 1} → statement M
+is-side-spec = tie.close (tie.spec returns)
