@@ -1,8 +1,10 @@
 //! What gemlab answers, stored in files of this repository: the texts that `positions` and the C program `survey.c` have
-//! to write, and the list of answers that the program `replay` goes through. Nothing of the library is called here.
+//! to write, the list of answers that the program `replay` goes through, and files with what `catalogue` prints of them.
+//! Nothing of the library is called here.
 //!
 //! `stored check` says whether each file is what gemlab gives today; `stored write` writes them.
 
+mod catalogue;
 mod libraries;
 mod numbers;
 mod positions;
@@ -26,6 +28,7 @@ const STORED: &[(&str, Made)] = &[
     ("crates/replay/stdout", replay::text),
     ("crates/replay/data/libraries.bin", replay::libraries_file),
     ("examples/survey.expected", survey::text),
+    ("tests/catalogue.cases", catalogue::text),
 ];
 
 fn main() -> ExitCode {

@@ -22,14 +22,13 @@ pub enum Shown {
     Refused(u64),
 }
 
-// The line that a program prints for a refusal: answers how long it is.
-pub fn put_refusal(number: u64, out: &mut [u8; 32]) -> usize
-    ensures { λ r. ⌜ (r ≤ length (now (out .exit))) × (r ≡ length (take r (now (out .exit)))) ⌝ }
-    ensures { λ r. ⌜ take r (now (out .exit)) ≡ refusal number ⌝ }
+// The line that a program prints for a refusal, from the buffer's start on.
+pub fn put_refusal(buffer: &mut [u8], number: u64) -> usize
+    ensures { λ r. ⌜ Put (refusal number) (now (buffer .entry)) 0 (now (buffer .exit)) r ⌝ }
 {
-    let past_word = text::put_text(out, 0, b"refused ");
-    let past_number = text::put_decimal(out, past_word, number);
-    text::put_byte(out, past_number, b'\n')
+    let past_word = text::put_text(buffer, 0, b"refused ");
+    let past_number = text::put_decimal(buffer, past_word, number);
+    text::put_byte(buffer, past_number, b'\n')
 }
 
 // Past the last row of the container that row i is in.

@@ -1,0 +1,20 @@
+-- The line is short.
+-- Assumes nothing.
+use native.Mathlib.Omega.{arith}
+use mathlib.Core.Path.{_≡_}
+use lib.ListN.{length}
+use Rattle.outcome.proofs.Texts.{refusal-front}
+use borrow.Author.Needs.{needs}
+use Rattle.outcome.proofs.put_refused.Statement.{statement}
+use Rattle.outcome.proofs.put_refused.Tie as tie
+
+put-refusal-requires : tie.Need-put-refusal-requires
+put-refusal-requires c κs = search needs
+
+returns : tie.Need-returns
+returns c =
+    let room : 70804 ≡ length (c .before .before .args .text .now) = search needs in
+    refusal-front (c .before .before .args .number) (c .put-refusal .ensures) (c .before .before .fits .number .fits) (omega (arith, room))
+
+pub put-refused-spec : {M : Type 1} → statement M
+put-refused-spec = tie.close (tie.spec put-refusal-requires returns)

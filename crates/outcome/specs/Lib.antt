@@ -1,0 +1,3 @@
+-- What the program prints, by what its two files hold.
+pub mod Outcome
+pub mod Examples

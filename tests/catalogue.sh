@@ -1,0 +1,69 @@
+#!/bin/sh
+# tests/catalogue.sh: runs the program `catalogue` on each case of tests/catalogue.cases and compares what it prints, byte
+# for byte. docs/STORED.md says where the cases come from.
+set -eu
+cd "$(dirname "$0")/.."
+cases=$PWD/tests/catalogue.cases
+program=$PWD/target/bin/catalogue
+[ -x "$program" ] || {
+    said=$(rt check catalogue 2>&1) || {
+        echo "$said"
+        exit 1
+    }
+}
+work=$(mktemp -d)
+trap 'rm -rf "$work"' EXIT
+mkdir "$work/in"
+cd "$work/in"
+name=
+run=0
+failed=0
+
+# Judges the case that was read.
+judge() {
+    [ -n "$name" ] || return 0
+    run=$((run + 1))
+    "$program" >../out 2>../err || echo "exit status $?" >>../err
+    if ! cmp -s ../out ../expected || [ -s ../err ]; then
+        echo "catalogue: $name: expected, then printed:"
+        cat ../expected ../out ../err
+        failed=$((failed + 1))
+    fi
+}
+
+# Appends bytes, given in hexadecimal, to a file: 2^$2 times.
+append() {
+    # shellcheck disable=SC2059
+    printf "$(echo "$3" | fold -w 2 | awk '/./ {
+        d = "0123456789abcdef"
+        printf "\\%03o", 16 * (index(d, substr($0, 1, 1)) - 1) + index(d, substr($0, 2, 1)) - 1
+    }')" >../piece
+    n=$2
+    while [ "$n" -gt 0 ]; do
+        cat ../piece ../piece >../twice
+        mv ../twice ../piece
+        n=$((n - 1))
+    done
+    cat ../piece >>"$1.bin"
+}
+
+while IFS= read -r line; do
+    case $line in
+    'case '*)
+        judge
+        name=${line#case }
+        rm -rf sheet.bin marks.bin
+        : >../expected
+        ;;
+    '> '*) printf '%s\n' "${line#> }" >>../expected ;;
+    'sheet folder' | 'marks folder') mkdir "${line% folder}.bin" ;;
+    'sheet '* | 'marks '*)
+        # shellcheck disable=SC2086
+        set -- $line
+        append "$1" "$2" "${3-}"
+        ;;
+    esac
+done <"$cases"
+judge
+echo "catalogue: $run cases, $failed differ"
+[ "$run" -gt 0 ] && [ "$failed" -eq 0 ]
