@@ -9,6 +9,8 @@ use crate::rows::{LIMIT, MOST_ROWS};
 use crate::tally::Tally;
 use gemlab::mesh::{GridCells, IndexFields};
 use std::collections::BTreeSet;
+use std::hint::black_box;
+use std::time::Instant;
 
 /// Small meshes, each built with several settings.
 const MESHES: usize = 60_000;
@@ -485,4 +487,52 @@ pub fn compare(t: &mut Tally) {
     // 17 cannot be met: no corner of a box is past the high corner, and both quotients are rounded alike
     let all = BTreeSet::from([0, 1, 3, 6, 8, 9, 12, 13, 18, 19, 20, 21, 22, 23, 24]);
     t.check(met == all, || format!("refusals met: {met:?}"));
+}
+
+/// Microseconds of f: the best of many calls. What it returns is dropped after the clock has stopped.
+fn best<T>(rounds: usize, mut f: impl FnMut() -> T) -> f64 {
+    let mut best = f64::INFINITY;
+    for _ in 0..rounds {
+        let start = Instant::now();
+        let made = f();
+        best = best.min(start.elapsed().as_nanos() as f64 / 1000.0);
+        black_box(made);
+    }
+    best
+}
+
+pub fn measure(_: &mut Tally) {
+    let mut r = Random::new(36);
+    let mut meshes = vec![
+        ("even triangles", structured(&[22, 23], 1.0 / 22.0, &[0.0; 2])),
+        ("even triangles", structured(&[90, 90], 1.0 / 90.0, &[0.0; 2])),
+        ("even tetrahedra", structured(&[5, 5, 7], 0.2, &[0.0; 3])),
+        ("even tetrahedra", structured(&[11, 11, 11], 1.0 / 11.0, &[0.0; 3])),
+    ];
+    for (ndim, ncell, kind) in
+        [(2, 1_000, "triangles"), (2, 16_000, "triangles"), (3, 1_000, "tetrahedra"), (3, 8_000, "tetrahedra")]
+    {
+        let name = if kind == "triangles" { "random triangles" } else { "random tetrahedra" };
+        meshes.push((
+            name,
+            scattered(ndim, ncell, 1.0, |r, i| if i % 10 == 0 { r.between(0.02, 0.2) } else { 0.01 }, &mut r),
+        ));
+    }
+    println!(
+        "{:<18} {:>6} {:>6} {:>9} {:>9} {:>9} {:>7}",
+        "cells", "", "rows", "check us", "build us", "gemlab us", ""
+    );
+    for (name, flat) in &meshes {
+        let s = Settings::default();
+        let mut lent = Lent::new(MOST_ROWS, flat.ncell(), &mut r);
+        let mesh = flat.mesh();
+        let rounds = 3_000_000 / flat.ncell() / 8 + 20;
+        let ndim = flat.ndim as u64;
+        // a percentage of 2 is refused once the lists are looked through
+        let check = best(rounds, || assert_eq!(lent.build(ndim, flat, &Settings { large_pct: Some(2.0), ..s }), 21));
+        let here = best(rounds, || assert_eq!(lent.build(ndim, flat, &s), 0));
+        let there = best(rounds, || s.rust(&mesh).unwrap());
+        let (ncell, rows) = (flat.ncell(), lent.numbers[4]);
+        println!("{name:<18} {ncell:>6} {rows:>6} {check:>9.1} {here:>9.1} {there:>9.1} {:>6.2}x", there / here);
+    }
 }

@@ -34,6 +34,7 @@ const PARTS: &[(&str, fn(&mut Tally))] = &[
     ("listing", listing::compare),
     ("bench-listing", listing::measure),
     ("cells", cells::compare),
+    ("bench-cells", cells::measure),
 ];
 
 fn main() -> ExitCode {
