@@ -6,6 +6,7 @@
 
 mod catalogue;
 mod libraries;
+mod meshes;
 mod numbers;
 mod positions;
 #[allow(dead_code)]
@@ -27,6 +28,7 @@ const STORED: &[(&str, Made)] = &[
     ("crates/positions/stdout", positions::text),
     ("crates/replay/stdout", replay::text),
     ("crates/replay/data/libraries.bin", replay::libraries_file),
+    ("crates/replay/data/meshes.bin", replay::meshes_file),
     ("examples/survey.expected", survey::text),
     ("tests/catalogue.cases", catalogue::text),
 ];

@@ -1,14 +1,19 @@
 //! The files of the program `replay`.
 
 use crate::libraries::{libraries, DISTANCE, INSERT, LIST, SEARCH, SHEET, TABLE};
+use crate::meshes::{meshes, BUILD};
 
 pub fn libraries_file() -> Vec<u8> {
     libraries().bytes
 }
 
+pub fn meshes_file() -> Vec<u8> {
+    meshes().bytes
+}
+
 /// What the program has to write: the entries of each kind, and that none of them differs.
 pub fn text() -> Vec<u8> {
-    let entries = libraries().entries;
+    let (libraries, meshes) = (libraries().entries, meshes().entries);
     let kinds = [
         ("sheets", SHEET),
         ("insertions", INSERT),
@@ -16,7 +21,9 @@ pub fn text() -> Vec<u8> {
         ("listings", LIST),
         ("tables", TABLE),
         ("distances", DISTANCE),
+        ("cell builds", BUILD),
     ];
-    let line = |(name, kind): (&str, u64)| format!("{name}: {}, 0 differ\n", entries[kind as usize]);
+    let line =
+        |(name, kind): (&str, u64)| format!("{name}: {}, 0 differ\n", libraries[kind as usize] + meshes[kind as usize]);
     kinds.map(line).concat().into_bytes()
 }

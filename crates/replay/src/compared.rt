@@ -28,6 +28,19 @@ pub fn floats(fd: i32, to: &mut [f64]) -> usize
     n
 }
 
+pub fn corners(fd: i32, to: &mut [u32]) -> usize
+    ensures { λ r. ⌜ Counts r (now (to .exit)) ⌝ }
+{
+    let mut left = word(fd);
+    let mut n = 0;
+    while n < to.len() && left > 0 {
+        to[n] = (word(fd) % 0x1_0000_0000) as u32;
+        n += 1;
+        left -= 1;
+    }
+    n
+}
+
 // The same by ==; any two NaNs are the same.
 pub fn same(a: f64, b: f64) -> bool {
     a == b || (a != a && b != b)

@@ -2,6 +2,7 @@
 // back with what gemlab gave, and tells how many calls there were and how many differ.
 mod compared;
 mod library;
+mod mesh;
 
 // The entries of a kind, and how many of them differ.
 fn tell(what: &[u8], counts: &[u64; 20], kind: usize) {
@@ -17,10 +18,12 @@ fn tell(what: &[u8], counts: &[u64; 20], kind: usize) {
 fn main() {
     let mut counts = [0u64; 20];
     library::replay(b"libraries.bin", &mut counts);
+    mesh::replay(b"meshes.bin", &mut counts);
     tell(b"sheets: ", &counts, 1);
     tell(b"insertions: ", &counts, 2);
     tell(b"searches: ", &counts, 3);
     tell(b"listings: ", &counts, 4);
     tell(b"tables: ", &counts, 5);
     tell(b"distances: ", &counts, 6);
+    tell(b"cell builds: ", &counts, 8);
 }
