@@ -66,7 +66,7 @@ pub fn is_broken(ndim: usize, coords: &[f64], corners: &[u32]) -> bool
 }
 
 // The position of a point.
-fn point(ndim: usize, coords: &[f64], p: usize) -> Position
+pub fn point(ndim: usize, coords: &[f64], p: usize) -> Position
     requires { ⌜ dimension ndim ≡ true ⌝ ∗ ⌜ p * ndim + ndim ≤ length (now coords) ⌝ }
     ensures { λ r. ⌜ r ≡ positionOf (pointAt ndim (meshOf (now (coords .entry)) []) p) ⌝ }
 {

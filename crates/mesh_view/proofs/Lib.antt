@@ -1,0 +1,3 @@
+-- What the proofs of the mesh view share.
+pub mod View
+pub mod Corners
