@@ -2,7 +2,11 @@
 // library as gemlab's `Display` does, or `refused N` alone. Nothing is printed before the whole of `marks.bin` is judged.
 ghost use Prim.Native.Nat.{_≤_};
 ghost use mathlib.Core.Path.{_≡_};
+ghost use mathlib.Core.Bool.{true};
 ghost use lib.ListN.{length, take};
+ghost use Rattle.grid_search.specs.Sheet.{sheetOk};
+ghost use Rattle.rows.specs.Library.{library};
+ghost use Rattle.catalogue.specs.Files.{SheetRead, MarksRead, PartRead, Judged, Printed};
 use grid_search::GridSearch;
 use grid_search::Made;
 use libc::STDOUT_FILENO;
@@ -20,7 +24,10 @@ fn is_at_end(fd: i32) -> bool {
     libc::read(fd, &mut byte) == 0
 }
 
-fn read_sheet() -> Made {
+// The sheet of `sheet.bin`, which has to end after two records.
+fn read_sheet() -> Made
+    ensures { λ r. ⌜ SheetRead r ⌝ }
+{
     let fd = os::open_read(b"sheet.bin");
     if fd < 0 {
         return Made::Refused(13);
@@ -45,7 +52,9 @@ fn insert_part(
     ys: &mut [f64; 1024],
     zs: &mut [f64; 1024],
     used: usize,
-) -> Part {
+) -> Part
+    ensures { λ r. ⌜ PartRead sheet (library (now (keys .entry)) (now (ids .entry)) (now (xs .entry)) (now (ys .entry)) (now (zs .entry)) used) r (now (keys .exit)) (now (ids .exit)) (now (xs .exit)) (now (ys .exit)) (now (zs .exit)) ⌝ }
+{
     let mut bytes = io::large_buffer();
     let n = io::read_full(fd, &mut bytes);
     let answer = loading::insert_records(sheet, keys, ids, xs, ys, zs, used, &bytes[..n]);
@@ -61,8 +70,8 @@ fn insert_part(
     Part::Last(Inserted::Refused(13))
 }
 
-// A proved loop has to end, and nothing says that a file does. So the loop counts its turns down, from a number that no
-// file uses up.
+// Inserts the marks of a file. A proved loop has to end, and nothing says that a file does: so the loop counts its turns
+// down, from a number that no file uses up.
 fn insert_file(
     fd: i32,
     sheet: GridSearch,
@@ -71,7 +80,9 @@ fn insert_file(
     xs: &mut [f64; 1024],
     ys: &mut [f64; 1024],
     zs: &mut [f64; 1024],
-) -> Inserted {
+) -> Inserted
+    ensures { λ r. ⌜ MarksRead sheet (library (now (keys .entry)) (now (ids .entry)) (now (xs .entry)) (now (ys .entry)) (now (zs .entry)) 0) r (now (keys .exit)) (now (ids .exit)) (now (xs .exit)) (now (ys .exit)) (now (zs .exit)) ⌝ }
+{
     let mut used = 0;
     let mut turns = u64::MAX;
     while turns > 0 {
@@ -85,8 +96,11 @@ fn insert_file(
     Inserted::Refused(13)
 }
 
+// What is printed of a good sheet.
 fn catalogue(sheet: GridSearch, text: &mut [u8; 70804]) -> usize
+    requires { ⌜ sheetOk sheet ≡ true ⌝ }
     ensures { λ r. ⌜ (r ≤ length (now (text .exit))) × (r ≡ length (take r (now (text .exit)))) ⌝ }
+    ensures { λ r. ⌜ Judged sheet (take r (now (text .exit))) ⌝ }
 {
     let fd = os::open_read(b"marks.bin");
     if fd < 0 {
@@ -102,8 +116,10 @@ fn catalogue(sheet: GridSearch, text: &mut [u8; 70804]) -> usize
     outcome::put_outcome(sheet, &keys, &ids, &xs, &ys, &zs, answer, text)
 }
 
+// What is printed of the two files: it stands at the front of the buffer.
 fn put_text(text: &mut [u8; 70804]) -> usize
     ensures { λ r. ⌜ (r ≤ length (now (text .exit))) × (r ≡ length (take r (now (text .exit)))) ⌝ }
+    ensures { λ r. ⌜ Printed (take r (now (text .exit))) ⌝ }
 {
     let made = read_sheet();
     match made {

@@ -45,7 +45,7 @@ then-refused : (t next : Turn ℕ) (n : ℕ) → t .answer ≡ refused n → and
 unfolding andThen
 then-refused t next n e = rw e
 
-then-success : (t next : Turn ℕ) (n : ℕ) → t .answer ≡ success n → andThen t (t .answer) next ≡ next
+pub then-success : (t next : Turn ℕ) (n : ℕ) → t .answer ≡ success n → andThen t (t .answer) next ≡ next
 unfolding andThen
 then-success t next n e = rw e
 

@@ -1,7 +1,6 @@
--- The outcome's text is what the definition prints: a file read in parts gives what the whole gives, and a library that took all
--- the marks is not damaged.
+-- The outcome's text is what the definition prints: a library that took all the marks is not damaged.
 -- Assumes nothing.
-use Prim.Native.Nat.{ℕ, _%_}
+use Prim.Native.Nat.{ℕ}
 use native.Mathlib.Omega.{arith}
 use mathlib.Core.Path.{_≡_, refl, sym, ap, _∙_}
 use mathlib.Core.Bool.{true}
@@ -20,19 +19,9 @@ use Rattle.records.specs.declared.Record.{Record}
 use Rattle.records.specs.Records.{recordAt}
 use Rattle.display.specs.Display.{displayText}
 use Rattle.loading.specs.Loading.{placeOf, unless, fileTests, sheetOf, recordsOf, andThen, insertAll, leftover, finish, insertBytes}
-use Rattle.loading.proofs.Chunks.{in-parts}
 use Rattle.independence.specs.Run.{Call, change, insert, step, run}
 use Rattle.independence.proofs.Theorems.{start, run-sound}
-use Rattle.outcome.specs.Outcome.{textOr, libraryText, outcomeText, emptyLibrary, afterMarks, afterSheet, printed, inParts, joined, Whole, AsPrinted}
-
--- ---- in parts
-
-pub parts-whole : (s : GridSearch) (l : Library) (parts : List (List ℕ)) (last : List ℕ) → Whole parts → inParts s l parts last ≡ insertBytes s l (joined parts last)
-unfolding inParts joined
-parts-whole s l [] last w = refl
-parts-whole s l (part ∷ parts) last w =
-    let t = insertBytes s l part in
-    ap (andThen t (t .answer)) (parts-whole s (t .library) parts last (w .1)) ∙ sym (in-parts s l part (joined parts last) (w .0))
+use Rattle.outcome.specs.Outcome.{textOr, libraryText, outcomeText, emptyLibrary, afterMarks}
 
 -- ---- a library that took all the marks
 
@@ -64,6 +53,14 @@ finished left t n (refused m) a e = no m n (sym a ∙ e)
 finished none t n (success m) a e = (e, refl)
 finished (some k) t n (success m) a e = no k n e
 
+-- the rows in use after marks that were all taken are as many as the answer says
+pub bytes-used : (s : GridSearch) (l : Library) (bytes : List ℕ) (n : ℕ) → insertBytes s l bytes .answer ≡ success n → insertBytes s l bytes .library .used ≡ n
+unfolding insertBytes finish
+bytes-used s l bytes n e =
+    let all = insertAll s l (recordsOf bytes) in
+    let f = finished (leftover bytes) all n (all .answer) refl e in
+    ap (λ (k : Library). k .used) (f .1) ∙ all-run s l (recordsOf bytes) n (f .0) .1
+
 module _ (s : GridSearch) (good : sheetOk s ≡ true) (bytes : List ℕ) where
   abbrev turn : Turn ℕ
   turn = insertBytes s emptyLibrary bytes
@@ -72,27 +69,26 @@ module _ (s : GridSearch) (good : sheetOk s ≡ true) (bytes : List ℕ) where
   unfolding emptyLibrary level space tooLong
   empty-passes = start s emptyLibrary good refl refl (record { none-used = refl })
 
-  taken : (n : ℕ) → turn .answer ≡ success n → (fault (libraryTests s (turn .library)) ≡ none) × (turn .library .used ≡ n)
+  taken : (n : ℕ) → turn .answer ≡ success n → fault (libraryTests s (turn .library)) ≡ none
   unfolding insertBytes finish
   taken n e =
       let all = insertAll s emptyLibrary (recordsOf bytes) in
       let f = finished (leftover bytes) all n (all .answer) refl e in
       let r = all-run s emptyLibrary (recordsOf bytes) n (f .0) in
       let lib : turn .library ≡ run s emptyLibrary (calls s (recordsOf bytes)) = f .1 ∙ r .0 in
-      (rw lib (run-sound s emptyLibrary empty-passes (calls s (recordsOf bytes)) .passes), ap (λ (l : Library). l .used) (f .1) ∙ r .1)
+      rw lib (run-sound s emptyLibrary empty-passes (calls s (recordsOf bytes)) .passes)
 
   shown : (l : Library) → fault (libraryTests s l) ≡ none → libraryText s l ≡ displayText s (table l)
   unfolding libraryText textOr
   shown l e = ap (λ (o : Option ℕ). textOr o (displayText s (table l))) e
 
-  same-text : (o : Answer ℕ) → turn .answer ≡ o → outcomeText s (turn .library) o ≡ afterMarks s turn o
+  pub same-text : (o : Answer ℕ) → turn .answer ≡ o → outcomeText s (turn .library) o ≡ afterMarks s turn o
   unfolding outcomeText afterMarks
   same-text (refused n) e = refl
   same-text (success n) e =
-      let t = taken n e in
       let l = turn .library in
-      let same : library (l .keys) (l .ids) (l .xs) (l .ys) (l .zs) n ≡ l = rw (sym (t .1)) in
-      ap (libraryText s) same ∙ shown l (t .0)
+      let same : library (l .keys) (l .ids) (l .xs) (l .ys) (l .zs) n ≡ l = rw (sym (bytes-used s emptyLibrary bytes n e)) in
+      ap (libraryText s) same ∙ shown l (taken n e)
 
 -- ---- the sheet
 
@@ -101,18 +97,10 @@ unfolding unless
 made-success none a s e = e
 made-success (some n) a s e = absurd (let z : _≡_ {A = ℕ} 0 1 = cc in omega arith)
 
-sheet-good : (bytes : List ℕ) (s : GridSearch) → sheetOf bytes ≡ success s → sheetOk s ≡ true
+pub sheet-good : (bytes : List ℕ) (s : GridSearch) → sheetOf bytes ≡ success s → sheetOk s ≡ true
 unfolding sheetOf
 sheet-good bytes s e =
     let low = recordAt bytes 0 in
     let high = recordAt bytes 32 in
     let new = newSheet (placeOf (low .id) low) (placeOf (low .id) high) (number.Given (high .id)) float.LeftOut float.LeftOut in
     made-good (placeOf (low .id) low) (placeOf (low .id) high) (number.Given (high .id)) float.LeftOut float.LeftOut s (made-success (fault (fileTests bytes)) new s e)
-
--- ---- the whole
-
-pub as-printed : AsPrinted
-unfolding printed afterSheet
-as-printed sheet s e parts last w =
-    rw (parts-whole s emptyLibrary parts last w, e)
-    (let bytes = joined parts last in same-text s (sheet-good sheet s e) bytes (insertBytes s emptyLibrary bytes .answer) refl)

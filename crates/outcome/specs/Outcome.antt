@@ -1,18 +1,16 @@
--- What the program `catalogue` prints, by what its two files hold. No contract can speak of files; what the program calls is
--- proved to give these answers on the bytes that it reads.
+-- What the program `catalogue` prints, by what its two files hold.
 -- Assumes nothing.
-use Prim.Native.Nat.{ℕ, _%_}
-use mathlib.Core.Path.{_≡_}
+use Prim.Native.Nat.{ℕ}
 use mathlib.Core.Option.{Option, none, some}
-use mathlib.Core.List.{List, [], _∷_, _++_}
-use lib.ListN.{length, replicate}
+use mathlib.Core.List.{List}
+use lib.ListN.{replicate}
 use lib.Ieee.{Float}
 use Rattle.basics.specs.Refusals.{Answer, refused, success, fault}
 use Rattle.floats.specs.Rounded.{zeroF}
 use Rattle.grid_search.specs.declared.GridSearch.{GridSearch}
 use Rattle.rows.specs.Library.{Library, library, table, libraryTests, Turn}
 use Rattle.display.specs.Display.{displayText, refusal}
-use Rattle.loading.specs.Loading.{sheetOf, andThen, insertBytes}
+use Rattle.loading.specs.Loading.{sheetOf, insertBytes}
 
 -- ---- what is printed of a library and an answer, whatever they are
 
@@ -58,25 +56,3 @@ unfoldable pub printed : Option (List ℕ) → Option (List ℕ) → List ℕ
 unfolding refusal afterSheet sheetOf
 printed none marks = refusal 13
 printed (some bytes) marks = afterSheet (sheetOf bytes) marks
-
--- ---- how the program comes to it: marks.bin is read in parts, each but the last of a fixed number of whole records
-
-unfoldable pub inParts : GridSearch → Library → List (List ℕ) → List ℕ → Turn ℕ
-unfolding andThen insertBytes
-inParts s l [] last = insertBytes s l last
-inParts s l (part ∷ parts) last = let t = insertBytes s l part in andThen t (t .answer) (inParts s (t .library) parts last)
-
-unfoldable pub joined : List (List ℕ) → List ℕ → List ℕ
-joined [] last = last
-joined (part ∷ parts) last = part ++ joined parts last
-
-abbrev pub Whole : List (List ℕ) → Type 0
-Whole [] = Unit {0}
-Whole (part ∷ parts) = (length part % 32 ≡ 0) × Whole parts
-
--- the outcome's text is what the definition prints, however marks.bin was parted (`proofs/Reading.antt`)
-abbrev pub AsPrinted : Type 0
-AsPrinted =
-    (sheet : List ℕ) (s : GridSearch) → sheetOf sheet ≡ success s
-    → (parts : List (List ℕ)) (last : List ℕ) → Whole parts
-    → let t = inParts s emptyLibrary parts last in outcomeText s (t .library) (t .answer) ≡ printed (some sheet) (some (joined parts last))

@@ -1,0 +1,2 @@
+-- Laws of the files that the program reads.
+pub mod Laws

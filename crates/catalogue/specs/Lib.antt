@@ -1,0 +1,2 @@
+-- What the program's functions say of the files that they read.
+pub mod Files
