@@ -4,6 +4,7 @@
 //! else those that document 01 adds: 3, 6, 12 and 13.
 
 use crate::numbers::number;
+use crate::random::Random;
 use gemlab::util::GridSearch;
 use std::fmt::Write;
 
@@ -256,6 +257,39 @@ fn parts(out: &mut String) {
     case(out, "records across parts", s(), Holds(last().then(many(12)).then(bytes(&[(3, [6.5, 0.5, 0.0])]))));
 }
 
+/// Any sheets and marks, many of them beside borders of containers, where a mark has several rows.
+fn any(out: &mut String) {
+    let mut r = Random::new(1);
+    for i in 1..=24 {
+        let ndim = 2 + r.below(2) as usize;
+        let (mut low, mut high) = ([NAN; 3], [NAN; 3]);
+        for axis in 0..ndim {
+            low[axis] = r.between(-1000.0, 1000.0);
+            high[axis] = low[axis] + r.between(0.5, 50.0);
+        }
+        let records = [(ndim as u64, low), (2 + r.below(40), high)];
+        let file = Holds(bytes(&records));
+        let fields = sheet(&file).ok().unwrap().0.fields();
+        let most = 1 + r.below(u64::MAX / 2) * (i % 2);
+        let mut marks = Vec::new();
+        for _ in 0..r.below(40) {
+            let mut x = [NAN; 3];
+            for axis in 0..ndim {
+                let border = fields.xmin[axis] + fields.side_length * r.below(fields.ndiv[axis] as u64 + 1) as f64;
+                x[axis] = match r.below(3) {
+                    0 => r.between(low[axis], high[axis]),
+                    _ => (border + r.between(-2e-4, 2e-4)).clamp(low[axis], high[axis]),
+                };
+            }
+            marks.push((r.below(8).wrapping_mul(most), x));
+        }
+        if i % 8 == 0 {
+            marks.push((1, high.map(|x| x + 100.0)));
+        }
+        case(out, &format!("any {i}"), file, Holds(bytes(&marks)));
+    }
+}
+
 pub fn text() -> Vec<u8> {
     let mut out = String::from(
         "# Files of the program `catalogue`, and what it prints: made by compare/stored (docs/STORED.md).\n\
@@ -266,5 +300,6 @@ pub fn text() -> Vec<u8> {
     marks(&mut out);
     rows(&mut out);
     parts(&mut out);
+    any(&mut out);
     out.into_bytes()
 }
