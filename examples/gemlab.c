@@ -231,6 +231,25 @@ static void build(const char *what, size_t count, uint64_t pct_given, double pct
     printf("\n");
 }
 
+/* The cell at a position, and the position's coordinates in it. */
+static void locate(double x, double y)
+{
+    const double at[2] = {x, y};
+    double zeta[4] = {9, 9, 9, 9};
+    uint64_t found = 0, cell = 0;
+    uint64_t number = gemlab_grid_cells_search(cells_numbers, GEMLAB_CELLS_NUMBERS, cells_floats, GEMLAB_CELLS_FLOATS,
+                                               mesh_coords, 12, mesh_corners, 9, cell_keys, 12, cell_cells, 12, cell_large, 4,
+                                               at, 2, zeta, 4, &found, &cell);
+
+    if (number != 0) {
+        printf("cell at (%g,%g): refused %" PRIu64 "\n", x, y, number);
+    } else if (found) {
+        printf("cell at (%g,%g): %" PRIu64 ", coordinates %g %g %g, fourth entry %g\n", x, y, cell, zeta[0], zeta[1], zeta[2], zeta[3]);
+    } else {
+        printf("cell at (%g,%g): nothing, first entry %g\n", x, y, zeta[0]);
+    }
+}
+
 static void cells(void)
 {
     build("index of one triangle, percentage 1", 1, 1, 1, 12);
@@ -239,6 +258,13 @@ static void cells(void)
     build("index of three triangles", 3, 0, 0, 12);
     build("index of no triangle", 0, 0, 0, 12);
     build("index of three triangles, percentage 1", 3, 1, 1, 12);
+    locate(3, 1);
+    locate(2, 2);
+    locate(4.5, 0.25);
+    locate(4.5, 3);
+    locate(7, 1);
+    cell_large[1] = 0;
+    locate(3, 1);
 }
 
 int main(void)

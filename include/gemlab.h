@@ -315,6 +315,32 @@ uint64_t gemlab_grid_cells_new(uint64_t ndim,
                                uint64_t *numbers, size_t numbers_len,
                                double *floats, size_t floats_len);
 
+/*
+ * The cell at a position, of an index, its lists and its mesh: the first large cell that contains the
+ * position, and else the first cell of the position's container that does, both ascending. A cell
+ * contains a position that is not outside its bounding box and of whose coordinates in the cell none is
+ * below 0, so that a NaN, which a cell of no area can give, counts as inside.
+ *
+ * found becomes 1, cell its number, and the first 3 (2D) or 4 (3D) entries of zeta the position's
+ * coordinates in it; in 2D the fourth entry stays. Where no cell contains the position, found becomes 0
+ * and cell and zeta stay.
+ *
+ * Refusals: 1 (of numbers[0]; also for an empty list of numbers), 24 (more than 65,536 points, cells,
+ * rows or large cells in a lent list), 19, 13 (an index list not of its length, a damaged index, rows or
+ * large cells; in 2D the third entries of the index are not judged), 25 (zeta not of length 4), 2, 3 (of
+ * the position, and of every coordinate of the mesh, used or not), 11, 17.
+ */
+uint64_t gemlab_grid_cells_search(const uint64_t *numbers, size_t numbers_len,
+                                  const double *floats, size_t floats_len,
+                                  const double *coords, size_t coords_len,
+                                  const uint32_t *corners, size_t corners_len,
+                                  const uint64_t *keys, size_t keys_len,
+                                  const uint64_t *cells, size_t cells_len,
+                                  const uint64_t *large, size_t large_len,
+                                  const double *x, size_t x_len,
+                                  double *zeta, size_t zeta_len,
+                                  uint64_t *found, uint64_t *cell);
+
 #ifdef __cplusplus
 }
 #endif

@@ -1,4 +1,5 @@
 -- Laws of the answers that are told to C.
 mod Builds
+mod Indexes
 mod Libraries
 mod Listings

@@ -7,3 +7,4 @@ pub mod SheetLaws
 pub mod Libraries
 pub mod Lists
 pub mod Cells
+pub mod Indexes

@@ -2,6 +2,7 @@
 // means to its caller; each contract says that the number returned and everything lent are those of the call's definition.
 mod cells;
 mod distances;
+mod index;
 mod library;
 mod lists;
 mod sheet;
@@ -12,6 +13,7 @@ pub use distances::gemlab_point_circle_distance;
 pub use distances::gemlab_point_cylinder_distance;
 pub use distances::gemlab_point_line_distance;
 pub use distances::gemlab_point_point_distance;
+pub use index::gemlab_grid_cells_search;
 pub use library::gemlab_grid_search_insert;
 pub use library::gemlab_grid_search_search;
 pub use lists::gemlab_grid_search_list;

@@ -181,7 +181,7 @@ fn readable(numbers: &[u64], floats: &[f64]) -> bool
 }
 
 // The position whose coordinates start at entry i.
-fn position_at(floats: &[f64], i: usize) -> Position
+pub fn position_at(floats: &[f64], i: usize) -> Position
     requires { ⌜ i + 2 < length (now floats) ⌝ }
     ensures { λ r. ⌜ r ≡ positionAt i (now (floats .entry)) ⌝ }
 {
