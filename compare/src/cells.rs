@@ -2,6 +2,7 @@
 //! in its order, and everything lent compared before and after each call.
 
 use crate::c::gemlab_grid_cells_new;
+use crate::cell_search;
 use crate::meshes::{scattered, structured, Flat, Meshes};
 use crate::near::{down, equal, same, up};
 use crate::random::Random;
@@ -16,19 +17,19 @@ use std::time::Instant;
 const MESHES: usize = 60_000;
 
 /// How many numbers and floats an index has.
-const NUMBERS: usize = 6;
-const FLOATS: usize = 7;
+pub(crate) const NUMBERS: usize = 6;
+pub(crate) const FLOATS: usize = 7;
 
 #[derive(Clone, Copy, Debug, Default)]
-struct Settings {
-    tolerance: Option<f64>,
-    border_tol: Option<f64>,
-    large_cutoff: Option<f64>,
-    large_pct: Option<f64>,
+pub(crate) struct Settings {
+    pub(crate) tolerance: Option<f64>,
+    pub(crate) border_tol: Option<f64>,
+    pub(crate) large_cutoff: Option<f64>,
+    pub(crate) large_pct: Option<f64>,
 }
 
 impl Settings {
-    fn rust<'a>(&self, mesh: &'a gemlab::mesh::Mesh) -> Result<GridCells<'a>, &'static str> {
+    pub(crate) fn rust<'a>(&self, mesh: &'a gemlab::mesh::Mesh) -> Result<GridCells<'a>, &'static str> {
         GridCells::new(mesh, self.tolerance, self.border_tol, self.large_cutoff, self.large_pct)
     }
 
@@ -45,24 +46,24 @@ impl Settings {
 
 /// What is lent to a build.
 #[derive(Clone, Debug)]
-struct Lent {
-    keys: Vec<u64>,
-    cells: Vec<u64>,
-    large: Vec<u64>,
-    numbers: Vec<u64>,
-    floats: Vec<f64>,
+pub(crate) struct Lent {
+    pub(crate) keys: Vec<u64>,
+    pub(crate) cells: Vec<u64>,
+    pub(crate) large: Vec<u64>,
+    pub(crate) numbers: Vec<u64>,
+    pub(crate) floats: Vec<f64>,
 }
 
 impl Lent {
     /// Lists of any content.
-    fn new(rows: usize, large: usize, r: &mut Random) -> Self {
+    pub(crate) fn new(rows: usize, large: usize, r: &mut Random) -> Self {
         let mut list = |n: usize| (0..n).map(|_| r.next()).collect::<Vec<u64>>();
         let (keys, cells, large, numbers) = (list(rows), list(rows), list(large), list(NUMBERS));
         let floats = (0..FLOATS).map(|_| r.pattern()).collect();
         Lent { keys, cells, large, numbers, floats }
     }
 
-    fn build(&mut self, ndim: u64, flat: &Flat, s: &Settings) -> u64 {
+    pub(crate) fn build(&mut self, ndim: u64, flat: &Flat, s: &Settings) -> u64 {
         let [tolerance, border_tol, large_cutoff, large_pct] = [s.tolerance, s.border_tol, s.large_cutoff, s.large_pct]
             .map(|v| (v.is_some() as u64, v.unwrap_or(f64::NAN)));
         // SAFETY: each pointer is a vector's, which is aligned and not null, with its length; the written ones are apart.
@@ -285,7 +286,7 @@ fn build(flat: &Flat, s: &Settings, r: &mut Random, t: &mut Tally, met: &mut BTr
 }
 
 /// Settings, most of them good.
-fn settings(r: &mut Random) -> Settings {
+pub(crate) fn settings(r: &mut Random) -> Settings {
     let mut s = Settings::default();
     let least = 1.0 / 1048576.0;
     if r.below(2) == 0 {
@@ -486,7 +487,8 @@ pub fn compare(t: &mut Tally) {
     long(t, &mut met);
     // 17 cannot be met: no corner of a box is past the high corner, and both quotients are rounded alike
     let all = BTreeSet::from([0, 1, 3, 6, 8, 9, 12, 13, 18, 19, 20, 21, 22, 23, 24]);
-    t.check(met == all, || format!("refusals met: {met:?}"));
+    t.check(met == all, || format!("refusals met in builds: {met:?}"));
+    cell_search::compare(t);
 }
 
 /// Microseconds of f: the best of many calls. What it returns is dropped after the clock has stopped.
@@ -509,30 +511,34 @@ pub fn measure(_: &mut Tally) {
         ("even tetrahedra", structured(&[5, 5, 7], 0.2, &[0.0; 3])),
         ("even tetrahedra", structured(&[11, 11, 11], 1.0 / 11.0, &[0.0; 3])),
     ];
-    for (ndim, ncell, kind) in
-        [(2, 1_000, "triangles"), (2, 16_000, "triangles"), (3, 1_000, "tetrahedra"), (3, 8_000, "tetrahedra")]
-    {
-        let name = if kind == "triangles" { "random triangles" } else { "random tetrahedra" };
-        meshes.push((
-            name,
-            scattered(ndim, ncell, 1.0, |r, i| if i % 10 == 0 { r.between(0.02, 0.2) } else { 0.01 }, &mut r),
-        ));
+    for (name, ndim, ncell) in [
+        ("random triangles", 2, 1_000),
+        ("random triangles", 2, 16_000),
+        ("random tetrahedra", 3, 1_000),
+        ("random tetrahedra", 3, 8_000),
+    ] {
+        let size = |r: &mut Random, i: usize| if i % 10 == 0 { r.between(0.02, 0.2) } else { 0.01 };
+        meshes.push((name, scattered(ndim, ncell, 1.0, size, &mut r)));
     }
-    println!(
-        "{:<18} {:>6} {:>6} {:>9} {:>9} {:>9} {:>7}",
-        "cells", "", "rows", "check us", "build us", "gemlab us", ""
-    );
+    let s = Settings::default();
+    println!("{:<18}  cells   rows  check us  build us gemlab us", "mesh");
     for (name, flat) in &meshes {
-        let s = Settings::default();
         let mut lent = Lent::new(MOST_ROWS, flat.ncell(), &mut r);
         let mesh = flat.mesh();
-        let rounds = 3_000_000 / flat.ncell() / 8 + 20;
-        let ndim = flat.ndim as u64;
+        let rounds = 400_000 / flat.ncell() + 20;
+        let (ndim, ncell) = (flat.ndim as u64, flat.ncell());
         // a percentage of 2 is refused once the lists are looked through
         let check = best(rounds, || assert_eq!(lent.build(ndim, flat, &Settings { large_pct: Some(2.0), ..s }), 21));
         let here = best(rounds, || assert_eq!(lent.build(ndim, flat, &s), 0));
         let there = best(rounds, || s.rust(&mesh).unwrap());
-        let (ncell, rows) = (flat.ncell(), lent.numbers[4]);
+        let rows = lent.numbers[4];
         println!("{name:<18} {ncell:>6} {rows:>6} {check:>9.1} {here:>9.1} {there:>9.1} {:>6.2}x", there / here);
+    }
+    println!("{:<18}  cells   rows  check ns search ns   past it gemlab ns", "mesh");
+    for (name, flat) in &meshes {
+        let mut lent = Lent::new(MOST_ROWS, flat.ncell(), &mut r);
+        assert_eq!(lent.build(flat.ndim as u64, flat, &s), 0);
+        let mesh = flat.mesh();
+        cell_search::measure(name, flat, &lent, &s.rust(&mesh).unwrap());
     }
 }

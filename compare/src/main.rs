@@ -7,6 +7,7 @@
 #[allow(dead_code)]
 #[path = "../../bindings/src/c.rs"]
 mod c;
+mod cell_search;
 mod cells;
 mod floats;
 mod geometry;
