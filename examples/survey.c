@@ -1,6 +1,6 @@
-/* A small survey job: a sheet, posts put into a library, a post found by position, the posts on a line, and distances.
- * It prints what it finds. The numbers that it has to print, survey.expected, are gemlab's: compare/stored/survey.rs does
- * the same job with gemlab's Rust.
+/* A small survey job: a sheet, posts put into a library, a post found by position, the posts on a line, and a probe
+ * placed in the mesh of a basin. It uses every function of gemlab.h and prints what it finds. The numbers that it has to
+ * print, survey.expected, are gemlab's: compare/stored/survey.rs does the same job with gemlab's Rust.
  *
  *     cc -I include examples/survey.c target/staticlib/libcapi.a -o survey && ./survey
  */
@@ -77,6 +77,31 @@ static void distances(void) {
     printf("a line of one point: refused %" PRIu64 "\n", gemlab_point_line_distance(a, 2, a, 2, p, 2, &d));
 }
 
+/* A basin of two triangles over the square from (0, 0) to (4, 4). */
+static void basin(void) {
+    const double coords[8] = {0, 0, 4, 0, 4, 4, 0, 4};
+    const uint32_t corners[6] = {0, 1, 2, 0, 2, 3};
+    uint64_t row_keys[16] = {0}, row_cells[16] = {0}, large[2] = {0}, numbers[6] = {0};
+    double floats[7] = {0};
+    expect_accepted("mesh", gemlab_grid_cells_new(2, coords, 8, corners, 6, 0, 0, 0, 0, 0, 0, 0, 0, row_keys, 16, row_cells, 16,
+                                                  large, 2, numbers, 6, floats, 7));
+    printf("containers: %" PRIu64 " x %" PRIu64 ", rows: %" PRIu64 "\n", numbers[1], numbers[2], numbers[4]);
+    const double probes[3][2] = {{3, 1}, {1, 3}, {4.005, 2}};
+    for (int i = 0; i < 3; i++) {
+        double zeta[4] = {0, 0, 0, 0};
+        uint64_t found = 0, cell = 0;
+        uint64_t code = gemlab_grid_cells_search(numbers, 6, floats, 7, coords, 8, corners, 6, row_keys, 16, row_cells, 16, large, 2,
+                                                 probes[i], 2, zeta, 4, &found, &cell);
+        printf("probe (%g, %g): ", probes[i][0], probes[i][1]);
+        if (code != 0)
+            printf("refused %" PRIu64 "\n", code);
+        else if (found)
+            printf("cell %" PRIu64 ", coordinates %g %g %g\n", cell, zeta[0], zeta[1], zeta[2]);
+        else
+            printf("nothing\n");
+    }
+}
+
 int main(void) {
     const double low[2] = {0, 0}, high[2] = {8, 4};
     /* 8 divisions along the longest axis; tolerance and border are left out */
@@ -103,5 +128,6 @@ int main(void) {
     list_on("on a plane in 2D", 3, none, 0, none, 0, 1, 0, 0, 0, 0);
 
     distances();
+    basin();
     return failures != 0;
 }

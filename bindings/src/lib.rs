@@ -9,11 +9,11 @@
 //!
 //! # A survey job
 //!
-//! The same as `examples/survey.c`: a sheet, posts put into a library, a post found by position, the posts on a line, and
-//! distances.
+//! The same as `examples/survey.c`: a sheet, posts put into a library, a post found by position, the posts on a line,
+//! distances, and a probe placed in the mesh of a basin.
 //!
 //! ```
-//! use hrbotaj::{Filter, Library, Place, Refusal, Sheet};
+//! use hrbotaj::{CellIndex, Filter, Library, Mesh, Place, Refusal, Sheet};
 //!
 //! # fn main() -> Result<(), Refusal> {
 //! // 8 divisions along the longest axis; tolerance and border are left out
@@ -48,6 +48,18 @@
 //! assert_eq!(hrbotaj::point_cylinder_distance(&low, &high, 2.0, &q)?, 3.0);
 //! assert_eq!(hrbotaj::point_line_distance(&a, &a, &p).unwrap_err().to_string(),
 //!     "refused 15: the ends of a line, or of a cylinder's axis, are too close");
+//!
+//! // a basin of two triangles over the square from (0, 0) to (4, 4)
+//! let coords = [0.0, 0.0, 4.0, 0.0, 4.0, 4.0, 0.0, 4.0];
+//! let corners = [0, 1, 2, 0, 2, 3];
+//! let basin = Mesh { ndim: 2, coords: &coords, corners: &corners };
+//! let index = CellIndex::new(&basin, None, None, None, None)?;
+//! let mut zeta = [0.0; 4];
+//! assert_eq!(index.search(&basin, &mut zeta, &[3.0, 1.0])?, Some(0));
+//! assert_eq!(zeta, [0.25, 0.5, 0.25, 0.0]);
+//! assert_eq!(index.search(&basin, &mut zeta, &[1.0, 3.0])?, Some(1));
+//! assert_eq!(zeta, [0.25, 0.25, 0.5, 0.0]);
+//! assert_eq!(index.search(&basin, &mut zeta, &[4.005, 2.0])?, None);
 //! # Ok(())
 //! # }
 //! ```

@@ -1,6 +1,6 @@
 //! A refused call has changed nothing, and plain data that was changed by hand is refused or searched, never trusted.
 
-use hrbotaj::{Filter, Library, Place, Refusal, Sheet};
+use hrbotaj::{CellIndex, Filter, Library, Mesh, Place, Refusal, Sheet};
 
 /// Document 01's sheet S: corners (0, 0) and (8, 4), 8 divisions, tolerance 1/512, border 0.
 fn s() -> Sheet {
@@ -68,4 +68,32 @@ fn lists_of_any_length_are_judged() {
     }
     assert_eq!(Library::with_space(0).search(&sheet, &[1.0, 1.0]), Ok(None));
     assert_eq!(Library::with_space(65536).search(&sheet, &[]), Err(Refusal(2)));
+}
+
+#[test]
+fn an_index_is_judged() {
+    let coords = [0.0, 0.0, 4.0, 0.0, 4.0, 4.0, 0.0, 4.0];
+    let mesh = Mesh { ndim: 2, coords: &coords, corners: &[0, 1, 2, 0, 2, 3] };
+    let good = CellIndex::new(&mesh, None, None, None, None).unwrap();
+    let ways: [(fn(&mut CellIndex), u64); 6] = [
+        (|i| i.numbers[0] = 4, 1),
+        (|i| i.large.resize(65537, 0), 24),
+        (|i| i.numbers[4] = 1 << 40, 13),
+        (|i| i.cells[0] = 2, 13), // there are two cells, 0 and 1
+        (|i| i.cells.swap(0, 1), 13),
+        (|i| i.floats[0] = f64::NAN, 13),
+    ];
+    for (change, number) in ways {
+        let mut index = good.clone();
+        change(&mut index);
+        let mut zeta = [5.0; 4];
+        assert_eq!(index.search(&mesh, &mut zeta, &[3.0, 1.0]), Err(Refusal(number)));
+        assert_eq!(zeta, [5.0; 4]);
+    }
+    assert_eq!(good.search(&mesh, &mut [0.0; 3], &[3.0, 1.0]), Err(Refusal(25)));
+
+    let mut index = good.clone();
+    let broken = Mesh { corners: &[0, 1, 4], ..mesh };
+    assert_eq!(index.build(&broken, None, None, None, None), Err(Refusal(19)));
+    assert_eq!(index, good);
 }

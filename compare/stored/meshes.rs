@@ -1,4 +1,4 @@
-//! A sample of gemlab's cell builds, for the program `replay`, made as libraries.rs says.
+//! A sample of gemlab's cell builds and cell searches, for the program `replay`, made as libraries.rs says.
 
 use crate::random::Random;
 use crate::words::{three, Words};
@@ -7,9 +7,11 @@ use gemlab::mesh::{GridCells, Mesh};
 /// The kinds of entries. 0 ends a file.
 const MESH: u64 = 7;
 pub const BUILD: u64 = 8;
+pub const PROBE: u64 = 9;
 
-/// Meshes.
+/// Meshes, and positions in each.
 const MESHES: usize = 24;
+const PROBES: usize = 40;
 
 /// The room that the program has: for coordinates, corners, rows and large cells.
 const COORDS: usize = 128;
@@ -65,7 +67,7 @@ impl Flat {
         Flat { ndim, coords, corners }
     }
 
-    /// The mesh, which later builds are about.
+    /// The mesh, which later builds and searches are about.
     fn store(&self, w: &mut Words) -> Mesh {
         assert!(self.coords.len() <= COORDS && self.corners.len() <= CORNERS);
         w.entry(MESH);
@@ -101,6 +103,70 @@ fn store_build<'a>(w: &mut Words, mesh: &'a Mesh, settings: [Option<f64>; 4]) ->
     Some(index)
 }
 
+/// A position in the mesh: a point of it, between points, anywhere, outside or of another length.
+fn probe(r: &mut Random, flat: &Flat, index: &GridCells) -> Vec<f64> {
+    let f = index.fields();
+    let ndim = flat.ndim;
+    let point = |r: &mut Random| -> Vec<f64> {
+        let i = r.below((flat.coords.len() / ndim) as u64) as usize;
+        flat.coords[i * ndim..(i + 1) * ndim].to_vec()
+    };
+    match r.below(8) {
+        0 => point(r),
+        1 | 2 => {
+            let (p, q) = (point(r), point(r));
+            p.iter().zip(&q).map(|(a, b)| (a + b) / 2.0).collect()
+        }
+        3 => {
+            let mut x = point(r);
+            match r.below(3) {
+                0 => x[0] = f.xmax[0].next_up(),
+                1 => x.push(0.0),
+                _ => {
+                    x.pop();
+                }
+            }
+            x
+        }
+        _ => {
+            // between two points of the mesh, apart on each axis
+            let (p, q) = (point(r), point(r));
+            (0..ndim).map(|i| r.between(p[i].min(q[i]), p[i].max(q[i]))).collect()
+        }
+    }
+}
+
+/// The cells that a search may give, each with its coordinates.
+fn holding(index: &GridCells, x: &[f64]) -> Vec<(usize, [f64; 4])> {
+    let f = index.fields();
+    let held = |cells: Vec<usize>| -> Vec<(usize, [f64; 4])> {
+        let mut zeta = [0.0; 4];
+        cells.into_iter().filter_map(|cell| index.holds(&mut zeta, x, cell).then_some((cell, zeta))).collect()
+    };
+    let large = held(f.large);
+    if !large.is_empty() {
+        return large;
+    }
+    let key = gemlab::util::calc_container_key(x.len(), f.side_length, &f.ndiv, &f.xmin, x);
+    held(f.rows.iter().filter(|row| row.0 == key).map(|row| row.1).collect())
+}
+
+fn store_probe(w: &mut Words, index: &GridCells, x: &[f64]) {
+    w.entry(PROBE);
+    w.position(x);
+    let mut zeta = [0.0; 4];
+    if let Some(found) = w.answer(index.search(&mut zeta, x)) {
+        let cells = holding(index, x);
+        assert_eq!(found.is_some(), !cells.is_empty());
+        assert!(found.is_none_or(|cell| cells.iter().any(|c| c.0 == cell)));
+        w.count(cells.len());
+        for (cell, zeta) in cells {
+            w.count(cell);
+            w.floats(&zeta[..x.len() + 1]);
+        }
+    }
+}
+
 pub fn meshes() -> Words {
     let mut w = Words::default();
     let mut r = Random::new(12);
@@ -125,7 +191,11 @@ pub fn meshes() -> Words {
             _ => [None; 4],
         };
         let mesh = flat.store(&mut w);
-        assert!(store_build(&mut w, &mesh, settings).is_some());
+        let index = store_build(&mut w, &mesh, settings).unwrap();
+        for _ in 0..PROBES {
+            let x = probe(&mut r, &flat, &index);
+            store_probe(&mut w, &index, &x);
+        }
     }
     w.word(0);
     w

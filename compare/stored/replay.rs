@@ -1,7 +1,7 @@
 //! The files of the program `replay`.
 
 use crate::libraries::{libraries, DISTANCE, INSERT, LIST, SEARCH, SHEET, TABLE};
-use crate::meshes::{meshes, BUILD};
+use crate::meshes::{meshes, BUILD, PROBE};
 
 pub fn libraries_file() -> Vec<u8> {
     libraries().bytes
@@ -22,6 +22,7 @@ pub fn text() -> Vec<u8> {
         ("tables", TABLE),
         ("distances", DISTANCE),
         ("cell builds", BUILD),
+        ("cell searches", PROBE),
     ];
     let line =
         |(name, kind): (&str, u64)| format!("{name}: {}, 0 differ\n", libraries[kind as usize] + meshes[kind as usize]);

@@ -2,6 +2,7 @@
 
 use crate::numbers::refused;
 use gemlab::geometry::*;
+use gemlab::mesh::{GridCells, Mesh};
 use gemlab::util::{any_x, GridSearch};
 use gemlab::StrError;
 use std::collections::HashSet;
@@ -51,6 +52,26 @@ fn distances(out: &mut String) {
     writeln!(out, "a line of one point: {}", refused(point_line_distance(&a, &a, &p).unwrap_err())).unwrap();
 }
 
+fn basin(out: &mut String) {
+    let mesh = Mesh::from_lists(2, &[0.0, 0.0, 4.0, 0.0, 4.0, 4.0, 0.0, 4.0], &[0, 1, 2, 0, 2, 3]);
+    let index = GridCells::new(&mesh, None, None, None, None).unwrap();
+    let fields = index.fields();
+    writeln!(out, "containers: {} x {}, rows: {}", fields.ndiv[0], fields.ndiv[1], fields.rows.len()).unwrap();
+    for x in [[3.0, 1.0], [1.0, 3.0], [4.005, 2.0]] {
+        let mut zeta = [0.0; 4];
+        write!(out, "probe ({}, {}): ", general(x[0], 6), general(x[1], 6)).unwrap();
+        match index.search(&mut zeta, &x) {
+            Err(message) => writeln!(out, "{}", refused(message)),
+            Ok(None) => writeln!(out, "nothing"),
+            Ok(Some(cell)) => {
+                let [z0, z1, z2, _] = zeta.map(|z| general(z, 6));
+                writeln!(out, "cell {cell}, coordinates {z0} {z1} {z2}")
+            }
+        }
+        .unwrap();
+    }
+}
+
 pub fn text() -> Vec<u8> {
     let mut out = String::new();
     let mut sheet = GridSearch::new(&[0.0, 0.0], &[8.0, 4.0], Some(8), None, None).unwrap();
@@ -85,5 +106,6 @@ pub fn text() -> Vec<u8> {
     }
 
     distances(&mut out);
+    basin(&mut out);
     out.into_bytes()
 }

@@ -1,8 +1,6 @@
 // Document 01's 'Positions tried' through the public functions: a line for each, in the document's order. What it has to
 // write is made by gemlab (compare/stored/positions.rs).
 
-use geometry::Position;
-
 fn say(what: &[u8]) {
     io::write_all(1, what);
 }
@@ -352,41 +350,100 @@ fn circle(x: f64, y: f64) {
     }
 }
 
-// A position in a triangle.
-fn triangle(a: Position, b: Position, c: Position, x: f64, y: f64) {
-    let zeta = geometry::triangle_coords(a, b, c, Position { x, y, z: 0.0 });
-    if geometry::in_triangle(zeta) {
-        say(b"inside, ");
-        printing::print_float(zeta.0);
-        say(b" ");
-        printing::print_float(zeta.1);
-        say(b" ");
-        printing::print_float(zeta.2);
-        say(b"\n");
-    } else {
-        say(b"outside\n");
-    }
+// The index of one triangle, all settings left out but the percentage.
+fn new_index(
+    coords: &[f64],
+    corners: &[u32],
+    given: u64,
+    percentage: f64,
+    keys: &mut [u64],
+    cells: &mut [u64],
+    large: &mut [u64],
+    numbers: &mut [u64],
+    floats: &mut [f64],
+) -> u64 {
+    capi::gemlab_grid_cells_new(
+        2,
+        coords,
+        corners,
+        0,
+        0.0,
+        0,
+        0.0,
+        0,
+        0.0,
+        given,
+        percentage,
+        keys,
+        cells,
+        large,
+        numbers,
+        floats,
+    )
 }
 
-// The index of the triangle (0, 0), (4, 0), (0, 4) with a percentage, given or left out; other settings are left out.
-fn percentage(given: u64, percentage: f64) {
-    let coords = [0.0, 0.0, 4.0, 0.0, 0.0, 4.0];
+// A position in a triangle.
+fn triangle(coords: &[f64], x: f64, y: f64) {
     let corners = [0u32, 1, 2];
     let mut keys = [0u64; 4];
     let mut cells = [0u64; 4];
     let mut large = [0u64; 1];
     let mut numbers = [0u64; 6];
     let mut floats = [0.0; 7];
-    accepted(capi::gemlab_grid_cells_new(
-        2,
-        &coords,
+    new_index(
+        coords,
         &corners,
         0,
         0.0,
-        0,
-        0.0,
-        0,
-        0.0,
+        &mut keys,
+        &mut cells,
+        &mut large,
+        &mut numbers,
+        &mut floats,
+    );
+    let p = [x, y];
+    let mut zeta = [0.0; 4];
+    let mut found = 0;
+    let mut cell = 0;
+    let number = capi::gemlab_grid_cells_search(
+        &numbers,
+        &floats,
+        coords,
+        &corners,
+        &keys,
+        &cells,
+        &large,
+        &p,
+        &mut zeta,
+        &mut found,
+        &mut cell,
+    );
+    if number != 0 {
+        refused(number);
+    } else if found == 0 {
+        say(b"outside\n");
+    } else {
+        say(b"inside, ");
+        printing::print_float(zeta[0]);
+        say(b" ");
+        printing::print_float(zeta[1]);
+        say(b" ");
+        printing::print_float(zeta[2]);
+        say(b"\n");
+    }
+}
+
+// The index of one triangle with a percentage, given or left out.
+fn percentage(coords: &[f64], given: u64, percentage: f64) {
+    let corners = [0u32, 1, 2];
+    let mut keys = [0u64; 4];
+    let mut cells = [0u64; 4];
+    let mut large = [0u64; 1];
+    let mut numbers = [0u64; 6];
+    let mut floats = [0.0; 7];
+    accepted(new_index(
+        coords,
+        &corners,
         given,
         percentage,
         &mut keys,
@@ -433,23 +490,21 @@ fn lines_on_s() {
     lines(&numbers, &floats);
 }
 
-// A point in the plane.
-fn point(x: f64, y: f64) -> Position {
-    Position { x, y, z: 0.0 }
-}
-
 fn triangles() {
-    let a = point(0.0, 0.0);
-    let b = point(4.0, 0.0);
-    let c = point(0.0, 4.0);
+    let right = [0.0, 0.0, 4.0, 0.0, 0.0, 4.0];
     say(b"triangle (0, 0), (4, 0), (0, 4), (1, 1): ");
-    triangle(a, b, c, 1.0, 1.0);
+    triangle(&right, 1.0, 1.0);
     say(b"triangle (0, 0), (4, 0), (0, 4), (2, 2): ");
-    triangle(a, b, c, 2.0, 2.0);
+    triangle(&right, 2.0, 2.0);
     say(b"triangle (0, 0), (4, 0), (0, 4), (3, 3): ");
-    triangle(a, b, c, 3.0, 3.0);
+    triangle(&right, 3.0, 3.0);
+    let flat = [0.0, 0.0, 1.0, 0.0, 2.0, 0.0];
     say(b"triangle (0, 0), (1, 0), (2, 0), (1, 0): ");
-    triangle(a, point(1.0, 0.0), point(2.0, 0.0), 1.0, 0.0);
+    triangle(&flat, 1.0, 0.0);
+    say(b"one triangle, percentage 1: ");
+    percentage(&right, 1, 1.0);
+    say(b"one triangle, default percentage: ");
+    percentage(&right, 0, 0.0);
 }
 
 fn main() {
@@ -465,8 +520,4 @@ fn main() {
     say(b"circle of centre (4, 2) and radius 1, (4, 2): ");
     circle(4.0, 2.0);
     triangles();
-    say(b"one triangle, percentage 1: ");
-    percentage(1, 1.0);
-    say(b"one triangle, default percentage: ");
-    percentage(0, 0.0);
 }

@@ -26,4 +26,5 @@ fn main() {
     tell(b"tables: ", &counts, 5);
     tell(b"distances: ", &counts, 6);
     tell(b"cell builds: ", &counts, 8);
+    tell(b"cell searches: ", &counts, 9);
 }

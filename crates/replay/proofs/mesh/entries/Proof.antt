@@ -19,23 +19,23 @@ word-requires c κs = search needs
 loop-holds : tie.Need-loop-holds Inv-loop μ-loop
 loop-holds c = search needs
 
-slice-aggregate-build : tie.Need-slice-aggregate-build Inv-loop μ-loop
-slice-aggregate-build c = search needs
+slice-aggregate-entry : tie.Need-slice-aggregate-entry Inv-loop μ-loop
+slice-aggregate-entry c = search needs
 
-slice-aggregate-build-2 : tie.Need-slice-aggregate-build-2 Inv-loop μ-loop
-slice-aggregate-build-2 c = search needs
+slice-aggregate-entry-2 : tie.Need-slice-aggregate-entry-2 Inv-loop μ-loop
+slice-aggregate-entry-2 c = search needs
 
-slice-aggregate-build-3 : tie.Need-slice-aggregate-build-3 Inv-loop μ-loop
-slice-aggregate-build-3 c = search needs
+slice-aggregate-entry-3 : tie.Need-slice-aggregate-entry-3 Inv-loop μ-loop
+slice-aggregate-entry-3 c = search needs
 
-slice-aggregate-build-4 : tie.Need-slice-aggregate-build-4 Inv-loop μ-loop
-slice-aggregate-build-4 c = search needs
+slice-aggregate-entry-4 : tie.Need-slice-aggregate-entry-4 Inv-loop μ-loop
+slice-aggregate-entry-4 c = search needs
 
-slice-aggregate-build-5 : tie.Need-slice-aggregate-build-5 Inv-loop μ-loop
-slice-aggregate-build-5 c = search needs
+slice-aggregate-entry-5 : tie.Need-slice-aggregate-entry-5 Inv-loop μ-loop
+slice-aggregate-entry-5 c = search needs
 
-build-requires : tie.Need-build-requires Inv-loop μ-loop
-build-requires c κs = search needs
+entry-requires : tie.Need-entry-requires Inv-loop μ-loop
+entry-requires c κs = search needs
 
 tally-requires : tie.Need-tally-requires Inv-loop μ-loop
 tally-requires c κs = search needs
@@ -66,12 +66,12 @@ entries-spec =
     μ-loop
     word-requires
     loop-holds
-    slice-aggregate-build
-    slice-aggregate-build-2
-    slice-aggregate-build-3
-    slice-aggregate-build-4
-    slice-aggregate-build-5
-    build-requires
+    slice-aggregate-entry
+    slice-aggregate-entry-2
+    slice-aggregate-entry-3
+    slice-aggregate-entry-4
+    slice-aggregate-entry-5
+    entry-requires
     tally-requires
     word-requires-2
     sub-turns
