@@ -1,2 +1,3 @@
 -- The words of the contracts of the mesh view.
 pub mod View
+pub mod Examples

@@ -5,7 +5,9 @@ ghost use mathlib.Core.Path.{_≡_};
 ghost use lib.ListN.{length, getD};
 ghost use Rattle.mesh.specs.Mesh.{meshOf};
 ghost use Rattle.grid_cells.specs.Build.{settingsOf, lentOf, build, Gives};
+ghost use Rattle.cell_search.specs.Search.{cellSearch, leaves};
 ghost use Rattle.mesh_view.specs.View.{countsOf, cornerAnswer, cornerOf};
+use cell_search::FoundCell;
 use geometry::Position;
 use grid_cells::Built;
 use grid_cells::GridCells;
@@ -141,4 +143,61 @@ impl<'a, 'b> Mesh<'a, 'b> {
             large,
         )
     }
+
+    // `cell_search::search` on the view's lists. The dimension is the index's; the view's is not read.
+    pub fn search(
+        self,
+        grid: GridCells,
+        keys: &[u64],
+        cells: &[u64],
+        large: &[u64],
+        x: &[f64],
+        zeta: &mut [f64],
+    ) -> FoundCell
+        ensures { λ r. ⌜ leaves r (now (zeta .exit)) ≡ cellSearch grid (meshOf (now (self .entry .coords)) (now (self .entry .corners))) (lentOf (now (keys .entry)) (now (cells .entry)) (now (large .entry))) (now (zeta .entry)) (now (x .entry)) ⌝ }
+    {
+        cell_search::search(grid, self.coords, self.corners, keys, cells, large, x, zeta)
+    }
+}
+
+// The index of a mesh, built through its view: `GridCells::new` for callers that have no view.
+pub fn build(
+    ndim: usize,
+    coords: &[f64],
+    corners: &[u32],
+    tolerance: GivenF64,
+    border_tol: GivenF64,
+    large_cutoff: GivenF64,
+    large_pct: GivenF64,
+    keys: &mut [u64],
+    cells: &mut [u64],
+    large: &mut [u64],
+) -> Built
+    ensures { λ r. ⌜ Gives (build ndim (meshOf (now (coords .entry)) (now (corners .entry))) (settingsOf tolerance «border_tol» «large_cutoff» «large_pct») (lentOf (now (keys .entry)) (now (cells .entry)) (now (large .entry)))) r (now (keys .exit)) (now (cells .exit)) (now (large .exit)) ⌝ }
+{
+    Mesh::new(ndim, coords, corners).grid_cells(
+        tolerance,
+        border_tol,
+        large_cutoff,
+        large_pct,
+        keys,
+        cells,
+        large,
+    )
+}
+
+// The cell at a position, found through the mesh's view: `cell_search::search` for callers that have no view.
+pub fn search(
+    grid: GridCells,
+    coords: &[f64],
+    corners: &[u32],
+    keys: &[u64],
+    cells: &[u64],
+    large: &[u64],
+    x: &[f64],
+    zeta: &mut [f64],
+) -> FoundCell
+    ensures { λ r. ⌜ leaves r (now (zeta .exit)) ≡ cellSearch grid (meshOf (now (coords .entry)) (now (corners .entry))) (lentOf (now (keys .entry)) (now (cells .entry)) (now (large .entry))) (now (zeta .entry)) (now (x .entry)) ⌝ }
+{
+    Mesh::new(grid.ndim, coords, corners).search(grid, keys, cells, large, x, zeta)
 }

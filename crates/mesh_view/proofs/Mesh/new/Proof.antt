@@ -22,12 +22,12 @@ use denote.Plain.{uint-vals, uint-tells}
 use denote.Builtin.{u32, f64}
 use denote.Ref.{RefT, NamedLft}
 use denote.Signature.{namedLft}
-use denote.Slice.{sliceVal, Room, slice-vals, shr-slice-tells}
+use denote.Slice.{Room, slice-vals, shr-slice-tells}
 use denote.Triple.Entry.{Vals, onEntry}
 use denote.Triple.Spec.{Meets, tripleOf}
 use denote.Triple.Table.{entered}
 use Rattle.mesh_view.specs.declared.Mesh.{Mesh}
-use Rattle.mesh_view.proofs.View.{meets, made, freed}
+use Rattle.mesh_view.proofs.View.{lent, meets, made, freed}
 use Rattle.mesh_view.proofs.Mesh.new.Key.{name as #f}
 use Rattle.mesh_view.proofs.Mesh.new as f
 use Rattle.mesh_view.proofs.Mesh.new.Statement as stated
@@ -44,14 +44,14 @@ module _ {M : Type 1} (𝓤 : URA M) (H : Heap 𝓤) (A : Atoms 𝓤) (W : Given
   d = record { ndim = n; coords = x; corners = y }
 
   abbrev vals : Vals f.signature κs
-  vals = (vint w64 n ∷ [], (sliceVal (x .ptr) (length (x .now)) ∷ [], (sliceVal (y .ptr) (length (y .now)) ∷ [], tt)))
+  vals = (vint w64 n ∷ [], (lent x ∷ [], (lent y ∷ [], tt)))
 
   abbrev Post : Val → SProp 𝓤
   Post = tripleOf 𝓤 H A f.signature (f.spec 𝓤 H A mem run) .post ((κs, qs, tt, (n, (x, (y, tt))), vals), tt)
 
   module _ (C : Calls 𝓤 H) (Λ : Loops 𝓤 H) where
     walk : n < 2 ^ 64 → Room f64 (length (x .now)) → Room u32 (length (y .now))
-        → ent 𝓤 (onEntry 𝓤 H A f.signature κs qs (n, (x, (y, tt))) vals) (WpFn 𝓤 H C Λ code.function (vint w64 n ∷ sliceVal (x .ptr) (length (x .now)) ∷ sliceVal (y .ptr) (length (y .now)) ∷ []) Post)
+        → ent 𝓤 (onEntry 𝓤 H A f.signature κs qs (n, (x, (y, tt))) vals) (WpFn 𝓤 H C Λ code.function (vint w64 n ∷ lent x ∷ lent y ∷ []) Post)
     walk n-fits x-room y-room =
         qed W (raw (onEntry 𝓤 H A f.signature κs qs (n, (x, (y, tt))) vals) ∷ []) ∵ enter ! C Λ code.function _ _ $
         alloc1 ! (λ l₀. alloc1 ! (λ l₁. alloc1 ! (λ l₂. alloc1 ! (λ l₃. alloc0 ! $ params1 ! $ pass1 ! (init ! 4 refl (tt, record { fits = n-fits })) $
