@@ -1,4 +1,4 @@
--- Laws of the tests: entries of a list in a walk, rows list by list.
+-- Laws of the tests: entries and neighbours in one walk, and each way out of 13.
 -- Assumes nothing.
 use Prim.Native.Nat.{ℕ, suc, _+_, _≤_, _<_}
 use native.Mathlib.Numerals.{add-one}
@@ -7,14 +7,13 @@ use mathlib.Core.Path.{_≡_, refl, sym, ap, _∙_}
 use mathlib.Core.Bool.{Bool, true, false, _&&_, and-true, and-assoc}
 use mathlib.Core.List.{List, [], _∷_}
 use lib.Dec.{ltb}
-use lib.ListN.{length, getD, take, drop}
-use lib.Seq.{slice-cons, length-slice}
+use lib.ListN.{length, getD, take, drop, drop-of-length-le}
 use lib.Ieee.{le}
 use borrow.Author.Tests.{eq-eqb, ne-eqb, le-leb, lt-leb}
 use Rattle.basics.specs.Bools.{and-left, and-right}
 use Rattle.basics.specs.Lists.{all, tab}
-use Rattle.basics.specs.Laws.{tab-take, map-tab, all-both, all-map}
-use Rattle.table.specs.Rows.{Slot, slotAt, slotsOf, sorted}
+use Rattle.basics.specs.Laws.{length-tab, drop-tab, tab-take}
+use Rattle.table.specs.Rows.{Slot, before, chain, slotsOf, sorted}
 use Rattle.floats.specs.Rounded.{pow2, pow2⁻}
 use Rattle.geometry.specs.Position.{coords}
 use Rattle.grid.specs.Divisions.{counts, division}
@@ -23,39 +22,63 @@ use Rattle.mesh.specs.Mesh.{Mesh, cellCount}
 use Rattle.grid_cells.specs.declared.GridCells.{GridCells}
 use Rattle.grid_cells.specs.Build.{Lent}
 use Rattle.cell_search.specs.Search.{cellRows, largeCells, cornerLimit, ordered, ascending, goodIndex, goodSlot, soundIndex}
-use Rattle.cell_search.specs.Steps.{goodRows}
+use Rattle.cell_search.specs.Steps.{goodRows, goodNumbers}
 
--- ---- ascending, in a walk with a flag that holds what was passed
+-- ---- a test of each entry, and of each with the next, in one walk with a flag that holds what was passed
 
-short : (l : List ℕ) → length l ≤ 1 → ascending l ≡ true
-unfolding ascending
-short [] e = refl
-short (a ∷ []) e = refl
-short (a ∷ b ∷ l) e = absurd (omega arith)
+module _ {A : Type 0} (p : A → Bool) (r : A → A → Bool) where
+  unfoldable pub linked : List A → Bool
+  linked [] = true
+  linked (x ∷ []) = p x
+  linked (x ∷ y ∷ l) = (p x && r x y) && linked (y ∷ l)
 
-module _ (n : ℕ) (s : List ℕ) (k : n ≤ length s) where
-  ascending-step : (i : ℕ) → i + 1 < n → ascending (drop i (take n s)) ≡ (ltb (getD s i 0) (getD s (i + 1) 0) && ascending (drop (i + 1) (take n s)))
-  unfolding ascending
-  ascending-step i h = rw (add-one, slice-cons i n s 0 (omega arith) k, slice-cons (suc i) n s 0 (omega arith) k)
+  linked-step : (n : ℕ) (f : ℕ → A) (i : ℕ) → i + 1 < n → linked (drop i (tab n f)) ≡ ((p (f i) && r (f i) (f (i + 1))) && linked (drop (i + 1) (tab n f)))
+  unfolding linked
+  linked-step n f i h = rw (add-one, drop-tab n f i (omega arith), drop-tab n f (suc i) (omega arith))
 
-  pub ascending-turn : (i : ℕ) (ok : Bool) → i + 1 < n → (ok && ascending (drop i (take n s))) ≡ ((ok && ltb (getD s i 0) (getD s (i + 1) 0)) && ascending (drop (i + 1) (take n s)))
-  ascending-turn i ok h = rw (ascending-step i h) (sym (and-assoc ok (ltb (getD s i 0) (getD s (i + 1) 0)) (ascending (drop (i + 1) (take n s)))))
+  pub linked-turn : (n : ℕ) (f : ℕ → A) (i : ℕ) (ok : Bool) → i + 1 < n → (ok && linked (drop i (tab n f))) ≡ ((ok && (p (f i) && r (f i) (f (i + 1)))) && linked (drop (i + 1) (tab n f)))
+  linked-turn n f i ok h = rw (linked-step n f i h) (sym (and-assoc ok (p (f i) && r (f i) (f (i + 1))) (linked (drop (i + 1) (tab n f)))))
 
-  pub ascending-end : (i : ℕ) (ok : Bool) → i ≤ n → n ≤ i + 1 → (ok && ascending (drop i (take n s))) ≡ ok
-  ascending-end i ok h g = ap (λ (b : Bool). ok && b) (short (drop i (take n s)) (omega (arith, length-slice i n s k))) ∙ and-true ok
+  pub linked-end : (n : ℕ) (f : ℕ → A) (i : ℕ) (ok : Bool) → i < n → n ≤ i + 1 → (ok && linked (drop i (tab n f))) ≡ (ok && p (f i))
+  unfolding linked
+  linked-end n f i ok h k =
+      let e : length (tab n f) ≤ suc i = omega (arith, length-tab n f) in
+      rw (drop-tab n f i h, drop-of-length-le (tab n f) e)
 
--- ---- rows, list by list
+  -- such a walk judges each entry, and an order that is judged on neighbours
+  pub linked-is : (s : List A → Bool) → s [] ≡ true → ((x : A) → s (x ∷ []) ≡ true) → ((x y : A) (l : List A) → s (x ∷ y ∷ l) ≡ (r x y && s (y ∷ l)))
+      → (l : List A) → (all p l && s l) ≡ linked l
+  unfolding linked all
+  linked-is s a b c [] = rw a
+  linked-is s a b c (x ∷ []) = rw (b x, and-true, and-true)
+  linked-is s a b c (x ∷ y ∷ l) = rw (c x y l) (turned (p x) (r x y) (all p (y ∷ l)) (s (y ∷ l)) ∙ ap (λ (t : Bool). (p x && r x y) && t) (linked-is s a b c (y ∷ l)))
+    where
+      turned : (a b c d : Bool) → ((a && c) && (b && d)) ≡ ((a && b) && (c && d))
+      turned false b c d = refl
+      turned true false false d = refl
+      turned true false true d = refl
+      turned true true c d = refl
 
-pub rows-tests : (keys cells : List ℕ) (used count ncell : ℕ) → used ≤ length keys → used ≤ length cells
-    → (all (λ (k : ℕ). ltb k count) (take used keys) && (all (λ (c : ℕ). ltb c ncell) (take used cells) && sorted (slotsOf keys cells used))) ≡ goodRows count ncell (slotsOf keys cells used)
-unfolding goodRows slotsOf
-rows-tests keys cells used count ncell h k =
-    let K : ℕ → Bool = λ (k : ℕ). ltb k count in
-    let C : ℕ → Bool = λ (c : ℕ). ltb c ncell in
-    let rows = tab used (slotAt keys cells) in
-    let a : all K (take used keys) ≡ all (λ (p : Slot). K (p .key)) rows = sym (sym (all-map K (λ (p : Slot). p .key) rows) ∙ ap (all K) (map-tab (λ (p : Slot). p .key) used (slotAt keys cells) ∙ tab-take used keys 0 h)) in
-    let b : all C (take used cells) ≡ all (λ (p : Slot). C (p .id)) rows = sym (sym (all-map C (λ (p : Slot). p .id) rows) ∙ ap (all C) (map-tab (λ (p : Slot). p .id) used (slotAt keys cells) ∙ tab-take used cells 0 k)) in
-    rw (a, b) (sym (and-assoc (all (λ (p : Slot). K (p .key)) rows) (all (λ (p : Slot). C (p .id)) rows) (sorted rows)) ∙ ap (λ (t : Bool). t && sorted rows) (sym (all-both (λ (p : Slot). K (p .key)) (λ (p : Slot). C (p .id)) rows)))
+-- rows
+abbrev pub rowTest : ℕ → ℕ → Slot → Bool
+rowTest count ncell q = ltb (q .key) count && ltb (q .id) ncell
+
+pub rows-linked : (count ncell : ℕ) (rows : List Slot) → goodRows count ncell rows ≡ linked (rowTest count ncell) before rows
+unfolding goodRows sorted chain
+rows-linked count ncell rows = linked-is (rowTest count ncell) before sorted refl (λ q. refl) (λ p q l. refl) rows
+
+pub no-rows : (count ncell : ℕ) (keys cells : List ℕ) (used : ℕ) → used ≡ 0 → true ≡ goodRows count ncell (slotsOf keys cells used)
+unfolding goodRows slotsOf sorted all
+no-rows count ncell keys cells used e = rw e
+
+-- numbers of cells
+pub numbers-linked : (ncell n : ℕ) (l : List ℕ) → n ≤ length l → goodNumbers ncell (take n l) ≡ linked (λ (c : ℕ). ltb c ncell) ltb (tab n (λ i. getD l i 0))
+unfolding goodNumbers ascending
+numbers-linked ncell n l h = rw (tab-take n l 0 h) (linked-is (λ (c : ℕ). ltb c ncell) ltb ascending refl (λ c. refl) (λ c d l. refl) (take n l))
+
+pub no-numbers : (ncell n : ℕ) (l : List ℕ) → n ≡ 0 → true ≡ goodNumbers ncell (take n l)
+unfolding goodNumbers ascending all
+no-numbers ncell n l e = rw e
 
 -- ---- 13: each way out of its test
 
@@ -90,8 +113,8 @@ module _ (g : GridCells) (m : Mesh) (l : Lent) where
         unsound-large k = rw (e, eq-eqb _ _ f, le-leb _ _ h, lt-leb _ _ k)
 
         pub sound-lists : g .large ≤ length (l .large) → (count ncell : ℕ) → count ≡ containers (counts (g .ndim) (g .ndiv)) → ncell ≡ cellCount (g .ndim) m
-            → (goodRows count ncell (cellRows g l) && (all (λ (c : ℕ). ltb c ncell) (largeCells g l) && ascending (largeCells g l))) ≡ soundIndex g m l
-        unfolding soundIndex goodRows goodSlot
+            → (goodRows count ncell (cellRows g l) && goodNumbers ncell (largeCells g l)) ≡ soundIndex g m l
+        unfolding soundIndex goodRows goodNumbers goodSlot
         sound-lists k count ncell i j =
             rw (e, eq-eqb _ _ f, le-leb _ _ h, le-leb _ _ k, i, j)
             (and-assoc (all (goodSlot g (cellCount (g .ndim) m)) (cellRows g l)) (sorted (cellRows g l)) (all (λ (c : ℕ). ltb c (cellCount (g .ndim) m)) (largeCells g l) && ascending (largeCells g l)))

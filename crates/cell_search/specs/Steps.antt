@@ -17,7 +17,7 @@ use Rattle.table.specs.Rows.{Slot, slotsOf, sorted, Ordered}
 use Rattle.grid_cells.specs.declared.GridCells.{GridCells}
 use Rattle.grid_cells.specs.Build.{Lent, lentTooLong}
 use Rattle.cell_search.specs.declared.Span.{Span}
-use Rattle.cell_search.specs.Search.{cellRows, largeCells}
+use Rattle.cell_search.specs.Search.{cellRows, largeCells, ascending}
 
 -- ---- refusals, in the order of `searchTests`: 13 stands between these, and 17 after them
 
@@ -41,6 +41,10 @@ positionTests g points nzeta x =
 -- rows of so many containers and cells, each by itself and in strict order
 unfoldable pub goodRows : ℕ → ℕ → List Slot → Bool
 goodRows count ncell ps = all (λ (p : Slot). ltb (p .key) count && ltb (p .id) ncell) ps && sorted ps
+
+-- numbers of so many cells, strictly ascending
+unfoldable pub goodNumbers : ℕ → List ℕ → Bool
+goodNumbers ncell cs = all (λ (c : ℕ). ltb c ncell) cs && ascending cs
 
 -- ---- cells to try
 

@@ -1,9 +1,8 @@
 // What turns a search away. Functions that return a number give document 01's, or 0.
-ghost use Prim.Native.Nat.{ℕ, _≤_};
+ghost use Prim.Native.Nat.{_≤_};
 ghost use mathlib.Core.Path.{_≡_};
 ghost use mathlib.Core.Bool.{true, _&&_};
 ghost use mathlib.Core.List.{[]};
-ghost use lib.Dec.{ltb};
 ghost use lib.ListN.{length, take};
 ghost use lib.Ieee.{le};
 ghost use Rattle.basics.specs.Lists.{all};
@@ -13,8 +12,8 @@ ghost use Rattle.geometry.specs.Position.{coords as axes, dimension};
 ghost use Rattle.mesh.specs.Mesh.{meshOf};
 ghost use Rattle.table.specs.Rows.{slotsOf};
 ghost use Rattle.grid_cells.specs.Build.{lentOf};
-ghost use Rattle.cell_search.specs.Search.{cornerLimit, ordered, ascending, goodIndex, soundIndex};
-ghost use Rattle.cell_search.specs.Steps.{listTests, positionTests, goodRows};
+ghost use Rattle.cell_search.specs.Search.{cornerLimit, ordered, goodIndex, soundIndex};
+ghost use Rattle.cell_search.specs.Steps.{listTests, positionTests, goodRows, goodNumbers};
 use geometry::Position;
 use grid_cells::GridCells;
 
@@ -86,42 +85,41 @@ fn is_good(grid: GridCells) -> bool
                 & (corner_ok(ndim, grid.xmax) & are_ordered(ndim, grid.xmin, grid.xmax))))
 }
 
-// Whether each of the first n is below a limit.
-fn all_below(s: &[u64], n: usize, limit: u64) -> bool
-    requires { ⌜ n ≤ length (now s) ⌝ }
-    ensures { λ r. ⌜ r ≡ all (λ (c : ℕ). ltb c limit) (take n (now (s .entry))) ⌝ }
-{
-    // no way out of the loop before its end: a flag costs less than a branch
-    let mut ok = true;
-    let mut i = 0;
-    while i < n {
-        ok = ok & (s[i] < limit);
-        i += 1;
-    }
-    ok
-}
-
-// Whether the rows in use are good, each by itself, and in strict order.
+// Whether the rows in use are good, each by itself, and in strict order: one pass, in which each row is judged with the next.
 fn are_rows_good(keys: &[u64], cells: &[u64], used: usize, count: u64, ncell: u64) -> bool
     requires { ⌜ (used ≤ length (now keys)) × (used ≤ length (now cells)) ⌝ }
     ensures { λ r. ⌜ r ≡ goodRows count ncell (slotsOf (now (keys .entry)) (now (cells .entry)) used) ⌝ }
 {
-    all_below(keys, used, count)
-        & (all_below(cells, used, ncell) & table::in_order(keys, cells, used))
+    if used == 0 {
+        return true;
+    }
+    // no way out of the loop before its end: a flag costs less than a branch
+    let mut ok = true;
+    let mut i = 0;
+    while i + 1 < used {
+        ok = ok
+            & (((keys[i] < count) & (cells[i] < ncell))
+                & table::ahead(keys[i], cells[i], keys[i + 1], cells[i + 1]));
+        i += 1;
+    }
+    ok & ((keys[i] < count) & (cells[i] < ncell))
 }
 
-// Whether the first n ascend.
-fn is_ascending(s: &[u64], n: usize) -> bool
-    requires { ⌜ n ≤ length (now s) ⌝ }
-    ensures { λ r. ⌜ r ≡ ascending (take n (now (s .entry))) ⌝ }
+// Whether the first n are numbers of cells, and ascend: in one pass too.
+fn are_large_good(large: &[u64], n: usize, ncell: u64) -> bool
+    requires { ⌜ n ≤ length (now large) ⌝ }
+    ensures { λ r. ⌜ r ≡ goodNumbers ncell (take n (now (large .entry))) ⌝ }
 {
+    if n == 0 {
+        return true;
+    }
     let mut ok = true;
     let mut i = 0;
     while i + 1 < n {
-        ok = ok & (s[i] < s[i + 1]);
+        ok = ok & ((large[i] < ncell) & (large[i] < large[i + 1]));
         i += 1;
     }
-    ok
+    ok & (large[i] < ncell)
 }
 
 // Whether 13 is not the case: the index by itself, the lent lists, the rows and the large cells in use.
@@ -150,8 +148,7 @@ pub fn is_sound(
     }
     let count = grid::container_count(ndim, grid.ndiv);
     let ncell = (corners.len() / (ndim + 1)) as u64;
-    are_rows_good(keys, cells, grid.used, count, ncell)
-        & (all_below(large, grid.large, ncell) & is_ascending(large, grid.large))
+    are_rows_good(keys, cells, grid.used, count, ncell) & are_large_good(large, grid.large, ncell)
 }
 
 // 25, 2, 3 or 11: the list of coordinates by its length, the position and the mesh's coordinates.

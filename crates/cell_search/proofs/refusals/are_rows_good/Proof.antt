@@ -1,21 +1,133 @@
--- `cell_search::refusals::are_rows_good` meets its contract. Assumes nothing.
-use Rattle.cell_search.proofs.Refused.{rows-tests}
+-- `cell_search::refusals::are_rows_good` meets its contract. Invariant: the flag says it of the rows passed. Assumes nothing.
+use Prim.Native.Nat.{_+_, _-_, _<_}
+use Rattle.basics.specs.Lists.{tab}
+use Rattle.cell_search.proofs.Refused.{linked, linked-turn, linked-end, rowTest, rows-linked, no-rows}
+use Rattle.cell_search.specs.Steps.{goodRows}
+use Rattle.table.specs.Rows.{before, slotAt, slotsOf}
 use borrow.Author.Needs.{needs}
+use lib.ListN.{drop}
+use mathlib.Core.Bool.{Bool, _&&_}
+use mathlib.Core.Path.{_≡_, sym, ap, _∙_}
+use native.Mathlib.Omega.{arith}
 use Rattle.cell_search.proofs.refusals.are_rows_good.Statement.{statement}
 use Rattle.cell_search.proofs.refusals.are_rows_good.Tie as tie
 
-all-below-requires : tie.Need-all-below-requires
-all-below-requires c κs = search needs
+abbrev Inv-loop : tie.InvT-loop
+Inv-loop keys cells used count ncell ok₀ i₀ ok i =
+    (i < used) × (goodRows count ncell (slotsOf keys cells used) ≡ (ok && linked (rowTest count ncell) before (drop i (slotsOf keys cells used))))
 
-all-below-requires-2 : tie.Need-all-below-requires-2
-all-below-requires-2 c κs = search needs
+abbrev μ-loop : tie.MeasureT-loop
+μ-loop keys cells used count ncell ok₀ i₀ ok i = used - i
 
-in-order-requires : tie.Need-in-order-requires
-in-order-requires c κs = search needs
+returns : tie.Need-returns Inv-loop μ-loop
+returns c = no-rows (c .before .before .before .args .count) (c .before .before .before .args .ncell) (c .before .before .before .args .keys .now) (c .before .before .before .args .cells .now) (c .before .before .before .args .used) (c .if1 .taken)
 
-returns : tie.Need-returns
-returns c = cc (rows-tests (c .before .before .before .before .before .args .keys .now) (c .before .before .before .before .before .args .cells .now) (c .before .before .before .before .before .args .used) (c .before .before .before .before .before .args .count) (c .before .before .before .before .before .args .ncell) (c .before .before .before .before .before .pre .0) (c .before .before .before .before .before .pre .1))
+loop-holds : tie.Need-loop-holds Inv-loop μ-loop
+loop-holds c = (omega (arith, c .if1 .left), rows-linked (c .before .before .before .args .count) (c .before .before .before .args .ncell) (slotsOf (c .before .before .before .args .keys .now) (c .before .before .before .args .cells .now) (c .before .before .before .args .used)))
+
+add-loop : tie.Need-add-loop Inv-loop μ-loop
+add-loop c = search needs
+
+mul-ok : tie.Need-mul-ok Inv-loop μ-loop
+mul-ok c = search needs
+
+shared-slice-read-ok : tie.Need-shared-slice-read-ok Inv-loop μ-loop
+shared-slice-read-ok c = search needs
+
+mul-ok-2 : tie.Need-mul-ok-2 Inv-loop μ-loop
+mul-ok-2 c = search needs
+
+shared-slice-read-ok-2 : tie.Need-shared-slice-read-ok-2 Inv-loop μ-loop
+shared-slice-read-ok-2 c = search needs
+
+mul-ahead : tie.Need-mul-ahead Inv-loop μ-loop
+mul-ahead c = search needs
+
+shared-slice-read-ahead : tie.Need-shared-slice-read-ahead Inv-loop μ-loop
+shared-slice-read-ahead c = search needs
+
+mul-ahead-2 : tie.Need-mul-ahead-2 Inv-loop μ-loop
+mul-ahead-2 c = search needs
+
+shared-slice-read-ahead-2 : tie.Need-shared-slice-read-ahead-2 Inv-loop μ-loop
+shared-slice-read-ahead-2 c = search needs
+
+add-ahead : tie.Need-add-ahead Inv-loop μ-loop
+add-ahead c = search needs
+
+mul-ahead-3 : tie.Need-mul-ahead-3 Inv-loop μ-loop
+mul-ahead-3 c = search needs
+
+shared-slice-read-ahead-3 : tie.Need-shared-slice-read-ahead-3 Inv-loop μ-loop
+shared-slice-read-ahead-3 c = search needs
+
+add-ahead-2 : tie.Need-add-ahead-2 Inv-loop μ-loop
+add-ahead-2 c = search needs
+
+mul-ahead-4 : tie.Need-mul-ahead-4 Inv-loop μ-loop
+mul-ahead-4 c = search needs
+
+shared-slice-read-ahead-4 : tie.Need-shared-slice-read-ahead-4 Inv-loop μ-loop
+shared-slice-read-ahead-4 c = search needs
+
+ahead-requires : tie.Need-ahead-requires Inv-loop μ-loop
+ahead-requires c κs = search needs
+
+add-i : tie.Need-add-i Inv-loop μ-loop
+add-i c = search needs
+
+loop-less : tie.Need-loop-less Inv-loop μ-loop
+loop-less c = search needs
+
+loop-again : tie.Need-loop-again Inv-loop μ-loop
+unfolding slotsOf
+loop-again c = (omega arith, c .before .before .before .before .before .before .before .before .loop .inv .1 ∙ linked-turn (rowTest (c .before .before .before .before .before .before .before .before .before .before .before .before .args .count) (c .before .before .before .before .before .before .before .before .before .before .before .before .args .ncell)) before (c .before .before .before .before .before .before .before .before .before .before .before .before .args .used) (slotAt (c .before .before .before .before .before .before .before .before .before .before .before .before .args .keys .now) (c .before .before .before .before .before .before .before .before .before .before .before .before .args .cells .now)) (c .before .before .before .before .before .before .before .before .loop .i) (c .before .before .before .before .before .before .before .before .loop .ok) (omega arith) ∙ ap (λ (t : Bool). (c .before .before .before .before .before .before .before .before .loop .ok && (rowTest (c .before .before .before .before .before .before .before .before .before .before .before .before .args .count) (c .before .before .before .before .before .before .before .before .before .before .before .before .args .ncell) ((slotAt (c .before .before .before .before .before .before .before .before .before .before .before .before .args .keys .now) (c .before .before .before .before .before .before .before .before .before .before .before .before .args .cells .now)) (c .before .before .before .before .before .before .before .before .loop .i)) && t)) && linked (rowTest (c .before .before .before .before .before .before .before .before .before .before .before .before .args .count) (c .before .before .before .before .before .before .before .before .before .before .before .before .args .ncell)) before (drop (c .before .before .before .before .before .before .before .before .loop .i + 1) (tab (c .before .before .before .before .before .before .before .before .before .before .before .before .args .used) (slotAt (c .before .before .before .before .before .before .before .before .before .before .before .before .args .keys .now) (c .before .before .before .before .before .before .before .before .before .before .before .before .args .cells .now))))) (sym (c .ahead .ensures)))
+
+mul-result : tie.Need-mul-result Inv-loop μ-loop
+mul-result c = search needs
+
+shared-slice-read-result : tie.Need-shared-slice-read-result Inv-loop μ-loop
+shared-slice-read-result c = search needs
+
+mul-result-2 : tie.Need-mul-result-2 Inv-loop μ-loop
+mul-result-2 c = search needs
+
+shared-slice-read-result-2 : tie.Need-shared-slice-read-result-2 Inv-loop μ-loop
+shared-slice-read-result-2 c = search needs
+
+returns-2 : tie.Need-returns-2 Inv-loop μ-loop
+unfolding slotsOf
+returns-2 c = sym (c .before .before .before .loop .inv .1 ∙ linked-end (rowTest (c .before .before .before .before .before .before .before .args .count) (c .before .before .before .before .before .before .before .args .ncell)) before (c .before .before .before .before .before .before .before .args .used) (slotAt (c .before .before .before .before .before .before .before .args .keys .now) (c .before .before .before .before .before .before .before .args .cells .now)) (c .before .before .before .loop .i) (c .before .before .before .loop .ok) (c .before .before .before .loop .inv .0) (omega arith))
 
 pub are-rows-good-spec : {M : Type 1} → statement M
 are-rows-good-spec =
-    tie.close (tie.spec all-below-requires all-below-requires-2 in-order-requires returns)
+    tie.close
+    (tie.spec
+    Inv-loop
+    μ-loop
+    returns
+    loop-holds
+    add-loop
+    mul-ok
+    shared-slice-read-ok
+    mul-ok-2
+    shared-slice-read-ok-2
+    mul-ahead
+    shared-slice-read-ahead
+    mul-ahead-2
+    shared-slice-read-ahead-2
+    add-ahead
+    mul-ahead-3
+    shared-slice-read-ahead-3
+    add-ahead-2
+    mul-ahead-4
+    shared-slice-read-ahead-4
+    ahead-requires
+    add-i
+    loop-less
+    loop-again
+    mul-result
+    shared-slice-read-result
+    mul-result-2
+    shared-slice-read-result-2
+    returns-2)

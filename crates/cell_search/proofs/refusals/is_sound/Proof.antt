@@ -39,15 +39,12 @@ div-ncell c = search needs
 are-rows-good-requires : tie.Need-are-rows-good-requires
 are-rows-good-requires c κs = search needs
 
-all-below-requires : tie.Need-all-below-requires
-all-below-requires c κs = search needs
-
-is-ascending-requires : tie.Need-is-ascending-requires
-is-ascending-requires c κs = search needs
+are-large-good-requires : tie.Need-are-large-good-requires
+are-large-good-requires c κs = search needs
 
 returns-5 : tie.Need-returns-5
 unfolding cellRows largeCells cellCount
-returns-5 c = cc (sound-lists (c .before .before .before .before .before .before .before .before .before .before .before .before .before .before .before .args .grid) (meshOf [] (c .before .before .before .before .before .before .before .before .before .before .before .before .before .before .before .args .corners .now)) (lentOf (c .before .before .before .before .before .before .before .before .before .before .before .before .before .before .before .args .keys .now) (c .before .before .before .before .before .before .before .before .before .before .before .before .before .before .before .args .cells .now) (c .before .before .before .before .before .before .before .before .before .before .before .before .before .before .before .args .large .now)) (sym (c .before .before .before .before .before .before .before .before .before .before .is-good .ensures) ∙ not-false _ (c .before .before .before .before .before .before .before .before .before .if1 .left)) (c .before .before .before .before .before .before .before .before .if2 .left) (c .before .before .before .before .before .before .if3 .left) (c .before .before .before .before .if4 .left) (c .before .before .before .container-count .result) (cellCount (c .before .before .before .before .before .before .before .before .before .before .before .before .before .before .before .args .grid .ndim) (meshOf [] (c .before .before .before .before .before .before .before .before .before .before .before .before .before .before .before .args .corners .now))) (c .before .before .before .container-count .ensures) refl)
+returns-5 c = cc (sound-lists (c .before .before .before .before .before .before .before .before .before .before .before .before .before .before .args .grid) (meshOf [] (c .before .before .before .before .before .before .before .before .before .before .before .before .before .before .args .corners .now)) (lentOf (c .before .before .before .before .before .before .before .before .before .before .before .before .before .before .args .keys .now) (c .before .before .before .before .before .before .before .before .before .before .before .before .before .before .args .cells .now) (c .before .before .before .before .before .before .before .before .before .before .before .before .before .before .args .large .now)) (sym (c .before .before .before .before .before .before .before .before .before .is-good .ensures) ∙ not-false _ (c .before .before .before .before .before .before .before .before .if1 .left)) (c .before .before .before .before .before .before .before .if2 .left) (c .before .before .before .before .before .if3 .left) (c .before .before .before .if4 .left) (c .before .before .container-count .result) (cellCount (c .before .before .before .before .before .before .before .before .before .before .before .before .before .before .args .grid .ndim) (meshOf [] (c .before .before .before .before .before .before .before .before .before .before .before .before .before .before .args .corners .now))) (c .before .before .container-count .ensures) refl)
 
 pub is-sound-spec : {M : Type 1} → statement M
 is-sound-spec =
@@ -62,6 +59,5 @@ is-sound-spec =
     add-ncell
     div-ncell
     are-rows-good-requires
-    all-below-requires
-    is-ascending-requires
+    are-large-good-requires
     returns-5)
