@@ -1,7 +1,7 @@
 -- The check of a library, column by column: the tests of the rows in use are tests of the first entries of each list.
 -- Assumes nothing.
-use Prim.Native.Nat.{ℕ, zero, suc, _+_, _-_, _≤_, _<_}
-use native.Mathlib.Nat.{eq-or-lt-of-le, lt-of-le-of-lt}
+use Prim.Native.Nat.{ℕ, zero, suc, _+_, _-_, _*_, _^_, _≤_, _<_}
+use native.Mathlib.Nat.{eq-or-lt-of-le, lt-of-le-of-lt, mul-one, mul-assoc}
 use native.Mathlib.Omega.{arith}
 use mathlib.Core.Path.{_≡_, refl, sym, ap, ap₂, _∙_, subst}
 use mathlib.Core.Logic.{_⊎_, inl, inr, ⊎-elim}
@@ -11,7 +11,7 @@ use mathlib.Core.Option.{none}
 use lib.Dec.{ltb, eqb}
 use lib.ListN.{length, getD, take}
 use lib.Ieee.{Float}
-use borrow.Author.Tests.{ltb-true, lt-ltb, leb-true, le-leb, lt-leb, eqb-true, not-false}
+use borrow.Author.Tests.{ltb-true, lt-ltb, le-ltb, leb-true, le-leb, lt-leb, eqb-true, not-false}
 use Rattle.basics.specs.Bools.{by-test, clash, both, and-both}
 use Rattle.basics.specs.Lists.{all, tab}
 use Rattle.basics.specs.Refusals.{fault, code, unrefused, code-none}
@@ -20,11 +20,12 @@ use Rattle.geometry.specs.Position.{coordinate, dimension}
 use Rattle.geometry.specs.Axes.{two-or-three}
 use Rattle.grid.specs.Containers.{containers}
 use Rattle.grid.specs.Divisions.{counts}
+use Rattle.grid.specs.Bounds.{bounds, two-small, three-small}
 use Rattle.grid_search.specs.declared.GridSearch.{GridSearch}
 use Rattle.grid_search.specs.Sheet.{sheetOk}
 use Rattle.grid_search.specs.Good.{good}
 use Rattle.table.specs.declared.Row.{Row}
-use Rattle.table.specs.Rows.{Slot, slotOf, before, slotAt, slotsOf, rowsOf, keyIn, xIn, yIn, zIn, sorted, Ordered, Sound}
+use Rattle.table.specs.Rows.{Slot, slotOf, before, slotAt, slotsOf, rowsOf, keyIn, xIn, yIn, zIn, sorted, Ordered, Sound, Ascending}
 use Rattle.table.proofs.Order.{Lex, before-lex, sorted-at}
 use Rattle.table.proofs.Stores.{slots-rows, rows-keys, rows-xs, rows-ys, rows-zs}
 use Rattle.rows.specs.Library.{Library, library, table, space, tooLong, level, fits, goodRow, sound, libraryTests}
@@ -83,6 +84,29 @@ good-split s d r =
 abbrev pub keysOk : GridSearch → List ℕ → ℕ → Bool
 keysOk s keys used = all (λ (k : ℕ). ltb k (containers (counts (s .ndim) (s .ndiv)))) (take used keys)
 
+-- there are no more than 2 ^ 30 containers
+few-containers : (s : GridSearch) → Divided s → containers (counts (s .ndim) (s .ndiv)) ≤ 1073741824
+unfolding containers
+few-containers s d =
+    let b = bounds (s .ndim) (s .ndiv) (d .axes) (d .divisions) in
+    ⊎-elim (λ e. subst (λ (n : ℕ). containers (counts n (s .ndiv)) ≤ 1073741824) (sym e) (flat (s .ndiv .x) (s .ndiv .y) (two-small (b .x .most) (b .y .most))))
+    (λ e. subst (λ (n : ℕ). containers (counts n (s .ndiv)) ≤ 1073741824) (sym e) (solid (s .ndiv .x) (s .ndiv .y) (s .ndiv .z) (three-small (b .x .most) (b .y .most) (b .z e .most))))
+    (two-or-three (s .ndim) (d .axes))
+  where
+    flat : (x y : ℕ) → x * y ≤ 1048576 → x * (y * 1) ≤ 1073741824
+    flat x y h = rw (mul-one y) (omega arith)
+
+    solid : (x y z : ℕ) → x * y * z ≤ 1073741824 → x * (y * (z * 1)) ≤ 1073741824
+    solid x y z h = rw (mul-one z, ← mul-assoc x y z) h
+
+high-key : (s : GridSearch) (keys : List ℕ) (used : ℕ) → Divided s → used ≤ length keys → (j : ℕ) → j < used → 2 ^ 32 ≤ getD keys j 0 → keysOk s keys used ≡ false
+high-key s keys used d h j l g =
+    let p : ℕ → Bool = λ (k : ℕ). ltb k (containers (counts (s .ndim) (s .ndiv))) in
+    by-test (keysOk s keys used)
+    (λ t. clash (all-at p (tab used (λ i. getD keys i 0)) j 0 (rw length-tab l) (ap (all p) (tab-take used keys 0 h) ∙ t))
+    (ap p (getD-tab used (λ i. getD keys i 0) j 0 l) ∙ le-ltb (getD keys j 0) (containers (counts (s .ndim) (s .ndiv))) (omega (arith, few-containers s d))))
+    (λ f. f)
+
 module _ (s : GridSearch) (keys ids : List ℕ) (xs ys zs : List Float) (used : ℕ) (h : Checked s keys ids xs ys zs used) where
   pub columns : all (goodRow s) (rowsOf keys ids xs ys zs used)
       ≡ (keysOk s keys used && (all coordinate (take used xs) && (all coordinate (take used ys) && all (third (s .ndim)) (take used zs))))
@@ -103,11 +127,18 @@ module _ (s : GridSearch) (keys ids : List ℕ) (xs ys zs : List Float) (used : 
   row-tests : rowsOk s (rowsOf keys ids xs ys zs used) ≡ ((keysOk s keys used && (all coordinate (take used xs) && (all coordinate (take used ys) && all (third (s .ndim)) (take used zs)))) && sorted (slotsOf keys ids used))
   row-tests = ap₂ (λ (a b : Bool). a && b) columns (ap sorted (slots-rows keys ids xs ys zs used))
 
-  pub bad-order : sorted (slotsOf keys ids used) ≡ false → false ≡ rowsOk s (rowsOf keys ids xs ys zs used)
+  bad-order : sorted (slotsOf keys ids used) ≡ false → false ≡ rowsOk s (rowsOf keys ids xs ys zs used)
   bad-order e = sym (row-tests ∙ rw (e, and-false))
 
   pub bad-keys : keysOk s keys used ≡ false → false ≡ rowsOk s (rowsOf keys ids xs ys zs used)
   bad-keys e = sym (row-tests ∙ rw e)
+
+  -- a key that is not below 2 ^ 32 is no key of the sheet
+  pub not-ascending : {r : Bool} → Ascending keys ids used r → r ≡ false → false ≡ rowsOk s (rowsOf keys ids xs ys zs used)
+  not-ascending a e =
+      by-test (sorted (slotsOf keys ids used))
+      (λ t. let w = a .no e t in bad-keys (high-key s keys used (h .sheet) (h .in-keys) (w .0) (w .1) (w .2)))
+      (λ f. bad-order f)
 
   pub bad-xs : all coordinate (take used xs) ≡ false → false ≡ rowsOk s (rowsOf keys ids xs ys zs used)
   bad-xs e = sym (row-tests ∙ rw (e, and-false))

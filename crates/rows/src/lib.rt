@@ -83,7 +83,7 @@ fn are_rows_good(
     ensures { λ r. ⌜ r ≡ rowsOk sheet (rowsOf (now (keys .entry)) (now (ids .entry)) (now (xs .entry)) (now (ys .entry)) (now (zs .entry)) used) ⌝ }
 {
     let ndim = sheet.ndim;
-    if !table::in_order(keys, ids, used) {
+    if !table::ascend(keys, ids, used) {
         return false;
     }
     if !are_keys_below(keys, ids, used, grid::container_count(ndim, sheet.ndiv)) {

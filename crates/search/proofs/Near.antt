@@ -120,11 +120,10 @@ module _ (s : GridSearch) (keys ids : List ℕ) (xs ys zs : List Float) (used : 
       (λ lt. past-key (slotAt keys ids i) (slotAt keys ids j) key (lower-above (slotted key 0) used (slotAt keys ids) order i h k) f (sorted-at used (slotAt keys ids) order i j lt m))
       (eq-or-lt-of-le l)))
 
-  pub walk-turn : (i : ℕ) → i < used → getD keys i 0 ≡ key → (b : Bool)
-      → b ≡ le (pointPoint (coords (s .ndim) (record { x = getD xs i nan; y = getD ys i nan; z = getD zs i nan })) x) (s .«tol_dist»)
-      → firstOf near (drop i rows) ≡ cond b (some (getD ids i 0)) (firstOf near (drop (i + 1) rows))
+  pub walk-turn : (i : ℕ) → i < used → getD keys i 0 ≡ key → (r : Row) → r ≡ rowAt keys ids xs ys zs i → (b : Bool) → b ≡ le (pointPoint (coords (s .ndim) (r .at)) x) (s .«tol_dist»)
+      → firstOf near (drop i rows) ≡ cond b (some (idIn r)) (firstOf near (drop (i + 1) rows))
   unfolding rowsOf isNearIn
-  walk-turn i h k b e = first-step near used (rowAt keys ids xs ys zs) i h ∙ rw (eq-eqb (getD keys i 0) key k, ← e)
+  walk-turn i h k r f b e = first-step near used (rowAt keys ids xs ys zs) i h ∙ rw (e, f, eq-eqb (getD keys i 0) key k)
 
   pub walk-end : (i : ℕ) → used ≤ i → firstOf near (drop i rows) ≡ none
   unfolding rowsOf

@@ -44,18 +44,15 @@ fn find_near(
     requires { ⌜ dimension (sheet .ndim) ≡ true ⌝ ∗ ⌜ Sound (now keys) (now ids) (now xs) (now ys) (now zs) used ⌝ }
     ensures { λ r. ⌜ found r ≡ success (lowest (keep (isNearIn sheet key (coords (sheet .ndim) x)) (rowsOf (now (keys .entry)) (now (ids .entry)) (now (xs .entry)) (now (ys .entry)) (now (zs .entry)) used))) ⌝ }
 {
-    let mut i = table::position(keys, ids, used, key, 0);
+    let mut i = table::first_of(keys, ids, used, key);
     while i < used {
         if keys[i] != key {
             return Found::Nothing;
         }
-        let point = Position {
-            x: xs[i],
-            y: ys[i],
-            z: zs[i],
-        };
+        let row = table::read_row(keys, ids, xs, ys, zs, i);
+        let point = row.at;
         if is_near(sheet, point, x) {
-            return Found::Id(ItemId(ids[i]));
+            return Found::Id(ItemId(row.id.0));
         }
         i += 1;
     }

@@ -1,7 +1,8 @@
 -- The rows of the table, their order, and what a store, a look-up and a search are to give.
 -- Assumes nothing.
-use Prim.Native.Nat.{ℕ, zero, suc, _+_, _≤_, _<_}
+use Prim.Native.Nat.{ℕ, zero, suc, _+_, _^_, _≤_, _<_}
 use mathlib.Core.Path.{_≡_}
+use mathlib.Core.Logic.{_⊎_}
 use mathlib.Core.Bool.{Bool, true, false, _&&_, _||_, cond}
 use mathlib.Core.List.{List, [], _∷_, _++_, map}
 use mathlib.Core.Option.{Option, none, some}
@@ -129,6 +130,30 @@ opened (suc at) (suc n) v (x ∷ l) = x ∷ opened at n v l
 -- rows written over the front of one of the lists, f being the list's field
 unfoldable pub laid : {A : Type 0} → (Row → A) → List Row → List A → List A
 laid f rows l = map f rows ++ drop (length rows) l
+
+-- r tells whether p stands before q, for a q whose key is below 2 ^ 32
+pub record Told (p q : Slot) (r : Bool) : Type 0 where
+  pub yes : r ≡ true → before p q ≡ true
+  pub no : r ≡ false → before p q ≡ true → 2 ^ 32 ≤ q .key
+
+-- one of the first keys is not below 2 ^ 32
+abbrev pub Large : List ℕ → ℕ → Type 0
+Large keys used = (j : ℕ) × (j < used) × (2 ^ 32 ≤ getD keys j 0)
+
+-- r tells whether the first `used` entries of two lists are slots in strict order, for keys below 2 ^ 32
+pub record Ascending (keys ids : List ℕ) (used : ℕ) (r : Bool) : Type 0 where
+  pub yes : r ≡ true → sorted (slotsOf keys ids used) ≡ true
+  pub no : r ≡ false → sorted (slotsOf keys ids used) ≡ true → Large keys used
+
+-- what stands at `at` is before place p and r is 1, or it is not and r is 0
+abbrev pub Passed : ℕ → ℕ → ℕ → Type 0
+Passed p at r = ((r ≡ 1) × (at < p)) ⊎ ((r ≡ 0) × (p ≤ at))
+
+-- place p stands from `from` on, and no farther than n after it
+pub record Between (p from n used : ℕ) : Type 0 where
+  pub least : from ≤ p
+  pub most : p ≤ from + n
+  pub room : from + n ≤ used
 
 -- the first `used` entries of two lists are slots in strict order
 pub record Ordered (keys ids : List ℕ) (used : ℕ) : Type 0 where

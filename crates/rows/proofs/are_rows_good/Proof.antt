@@ -9,18 +9,18 @@ use lib.Seq.{length-take-le}
 use Rattle.basics.specs.Lists.{all}
 use Rattle.geometry.specs.Axes.{three}
 use Rattle.rows.specs.Posts.{third}
-use Rattle.rows.proofs.Check.{bad-order, bad-keys, bad-xs, bad-ys, only-zs}
+use Rattle.rows.proofs.Check.{not-ascending, bad-keys, bad-xs, bad-ys, only-zs}
 use borrow.Author.Needs.{needs}
 use Rattle.rows.proofs.are_rows_good.Statement.{statement}
 use Rattle.rows.proofs.are_rows_good.Tie as tie
 
-in-order-requires : tie.Need-in-order-requires
-in-order-requires c κs = search needs
+ascend-requires : tie.Need-ascend-requires
+ascend-requires c κs = search needs
 
 returns : tie.Need-returns
 returns c =
     let start = c .before .before .before .before .before .before .before in
-    bad-order (start .args .sheet) (start .args .keys .now) (start .args .ids .now) (start .args .xs .now) (start .args .ys .now) (start .args .zs .now) (start .args .used) (start .pre) (sym (c .before .in-order .ensures) ∙ not-true _ (c .if1 .taken))
+    not-ascending (start .args .sheet) (start .args .keys .now) (start .args .ids .now) (start .args .xs .now) (start .args .ys .now) (start .args .zs .now) (start .args .used) (start .pre) (c .before .ascend .ensures) (not-true _ (c .if1 .taken))
 
 container-count-requires : tie.Need-container-count-requires
 container-count-requires c κs = search needs
@@ -28,7 +28,7 @@ container-count-requires c κs = search needs
 are-keys-below-requires : tie.Need-are-keys-below-requires
 are-keys-below-requires c κs =
     let start = c .before .before .before .before .before .before .before .before in
-    record { in-keys = start .pre .in-keys; in-ids = start .pre .in-ids; order = sym (c .before .before .in-order .ensures) ∙ not-false _ (c .before .if1 .left) }
+    record { in-keys = start .pre .in-keys; in-ids = start .pre .in-ids; order = c .before .before .ascend .ensures .yes (not-false _ (c .before .if1 .left)) }
 
 returns-2 : tie.Need-returns-2
 returns-2 c =
@@ -75,18 +75,18 @@ all-coordinates-requires-3 c κs = search needs
 returns-5 : tie.Need-returns-5
 returns-5 c =
     let start = c .before .before .before .before .before .before .before .before .before .before .before .before .before .before .before .before .before .before in
-    only-zs (start .args .sheet) (start .args .keys .now) (start .args .ids .now) (start .args .xs .now) (start .args .ys .now) (start .args .zs .now) (start .args .used) (start .pre) (c .are-plus-zeros .result) (sym (c .before .before .before .before .before .before .before .before .before .before .before .before .in-order .ensures) ∙ not-false _ (c .before .before .before .before .before .before .before .before .before .before .before .if1 .left)) (ap (λ (n : ℕ). all (λ (k : ℕ). ltb k n) (take (start .args .used) (start .args .keys .now))) (sym (c .before .before .before .before .before .before .before .before .before .before .container-count .ensures)) ∙ sym (c .before .before .before .before .before .before .before .before .before .are-keys-below .ensures) ∙ not-false _ (c .before .before .before .before .before .before .before .before .if2 .left)) (sym (c .before .before .before .before .before .before .all-coordinates .ensures) ∙ not-false _ (c .before .before .before .before .before .if3 .left)) (sym (c .before .before .before .all-coordinates2 .ensures) ∙ not-false _ (c .before .before .if4 .left)) (ap (λ (n : ℕ). all (third n) (take (start .args .used) (start .args .zs .now))) (c .before .if5 .taken) ∙ sym (c .are-plus-zeros .ensures))
+    only-zs (start .args .sheet) (start .args .keys .now) (start .args .ids .now) (start .args .xs .now) (start .args .ys .now) (start .args .zs .now) (start .args .used) (start .pre) (c .are-plus-zeros .result) (c .before .before .before .before .before .before .before .before .before .before .before .before .ascend .ensures .yes (not-false _ (c .before .before .before .before .before .before .before .before .before .before .before .if1 .left))) (ap (λ (n : ℕ). all (λ (k : ℕ). ltb k n) (take (start .args .used) (start .args .keys .now))) (sym (c .before .before .before .before .before .before .before .before .before .before .container-count .ensures)) ∙ sym (c .before .before .before .before .before .before .before .before .before .are-keys-below .ensures) ∙ not-false _ (c .before .before .before .before .before .before .before .before .if2 .left)) (sym (c .before .before .before .before .before .before .all-coordinates .ensures) ∙ not-false _ (c .before .before .before .before .before .if3 .left)) (sym (c .before .before .before .all-coordinates2 .ensures) ∙ not-false _ (c .before .before .if4 .left)) (ap (λ (n : ℕ). all (third n) (take (start .args .used) (start .args .zs .now))) (c .before .if5 .taken) ∙ sym (c .are-plus-zeros .ensures))
 
 returns-6 : tie.Need-returns-6
 returns-6 c =
     let start = c .before .before .before .before .before .before .before .before .before .before .before .before .before .before .before .before .before .before .before in
-    only-zs (start .args .sheet) (start .args .keys .now) (start .args .ids .now) (start .args .xs .now) (start .args .ys .now) (start .args .zs .now) (start .args .used) (start .pre) (c .all-coordinates3 .result) (sym (c .before .before .before .before .before .before .before .before .before .before .before .before .before .in-order .ensures) ∙ not-false _ (c .before .before .before .before .before .before .before .before .before .before .before .before .if1 .left)) (ap (λ (n : ℕ). all (λ (k : ℕ). ltb k n) (take (start .args .used) (start .args .keys .now))) (sym (c .before .before .before .before .before .before .before .before .before .before .before .container-count .ensures)) ∙ sym (c .before .before .before .before .before .before .before .before .before .before .are-keys-below .ensures) ∙ not-false _ (c .before .before .before .before .before .before .before .before .before .if2 .left)) (sym (c .before .before .before .before .before .before .before .all-coordinates .ensures) ∙ not-false _ (c .before .before .before .before .before .before .if3 .left)) (sym (c .before .before .before .before .all-coordinates2 .ensures) ∙ not-false _ (c .before .before .before .if4 .left)) (ap (λ (n : ℕ). all (third n) (take (start .args .used) (start .args .zs .now))) (three (start .args .sheet .ndim) (start .pre .sheet .axes) (c .before .before .if5 .left)) ∙ sym (c .all-coordinates3 .ensures))
+    only-zs (start .args .sheet) (start .args .keys .now) (start .args .ids .now) (start .args .xs .now) (start .args .ys .now) (start .args .zs .now) (start .args .used) (start .pre) (c .all-coordinates3 .result) (c .before .before .before .before .before .before .before .before .before .before .before .before .before .ascend .ensures .yes (not-false _ (c .before .before .before .before .before .before .before .before .before .before .before .before .if1 .left))) (ap (λ (n : ℕ). all (λ (k : ℕ). ltb k n) (take (start .args .used) (start .args .keys .now))) (sym (c .before .before .before .before .before .before .before .before .before .before .before .container-count .ensures)) ∙ sym (c .before .before .before .before .before .before .before .before .before .before .are-keys-below .ensures) ∙ not-false _ (c .before .before .before .before .before .before .before .before .before .if2 .left)) (sym (c .before .before .before .before .before .before .before .all-coordinates .ensures) ∙ not-false _ (c .before .before .before .before .before .before .if3 .left)) (sym (c .before .before .before .before .all-coordinates2 .ensures) ∙ not-false _ (c .before .before .before .if4 .left)) (ap (λ (n : ℕ). all (third n) (take (start .args .used) (start .args .zs .now))) (three (start .args .sheet .ndim) (start .pre .sheet .axes) (c .before .before .if5 .left)) ∙ sym (c .all-coordinates3 .ensures))
 
 pub are-rows-good-spec : {M : Type 1} → statement M
 are-rows-good-spec =
     tie.close
     (tie.spec
-    in-order-requires
+    ascend-requires
     returns
     container-count-requires
     are-keys-below-requires

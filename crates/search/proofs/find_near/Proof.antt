@@ -23,14 +23,14 @@ Inv-loop sheet keys ids xs ys zs used key x i₀ i =
 abbrev μ-loop : tie.MeasureT-loop
 μ-loop sheet keys ids xs ys zs used key x i₀ i = used - i
 
-position-requires : tie.Need-position-requires Inv-loop μ-loop
-position-requires c κs = search needs
+first-of-requires : tie.Need-first-of-requires Inv-loop μ-loop
+first-of-requires c κs = search needs
 
 loop-holds : tie.Need-loop-holds Inv-loop μ-loop
 loop-holds c =
     let start = c .before .before .before .before .before .before in
-    let w = walk-start (start .args .sheet) (start .args .keys .now) (start .args .ids .now) (start .args .xs .now) (start .args .ys .now) (start .args .zs .now) (start .args .used) (start .pre .1 .order) (start .args .key) (coords (start .args .sheet .ndim) (start .args .x)) (c .position .result) (c .position .ensures) in
-    (omega (arith, c .position .ensures), w .0, w .1)
+    let w = walk-start (start .args .sheet) (start .args .keys .now) (start .args .ids .now) (start .args .xs .now) (start .args .ys .now) (start .args .zs .now) (start .args .used) (start .pre .1 .order) (start .args .key) (coords (start .args .sheet .ndim) (start .args .x)) (c .first-of .result) (c .first-of .ensures) in
+    (omega (arith, c .first-of .ensures), w .0, w .1)
 
 mul-if1 : tie.Need-mul-if1 Inv-loop μ-loop
 mul-if1 c = search needs
@@ -40,42 +40,22 @@ shared-slice-read-if1 c = search needs
 
 returns : tie.Need-returns Inv-loop μ-loop
 returns c =
-    let start = c .before .before .before .before .before .before .before .before .before .before in
     let at-loop = c .before .before .before in
+    let start = at-loop .before .before .before .before .before .before .before in
     ap success (sym (walk-lowest (start .args .sheet) (start .args .keys .now) (start .args .ids .now) (start .args .xs .now) (start .args .ys .now) (start .args .zs .now) (start .args .used) (start .pre .1 .order) (start .args .key) (coords (start .args .sheet .ndim) (start .args .x)) ∙ at-loop .loop .inv .2 ∙ walk-stop (start .args .sheet) (start .args .keys .now) (start .args .ids .now) (start .args .xs .now) (start .args .ys .now) (start .args .zs .now) (start .args .used) (start .pre .1 .order) (start .args .key) (coords (start .args .sheet .ndim) (start .args .x)) (at-loop .loop .i) (at-loop .loop .inv .0) (c .before .before .loop-test .taken) (c .if1 .taken)))
 
-mul-t13 : tie.Need-mul-t13 Inv-loop μ-loop
-mul-t13 c = search needs
-
-shared-slice-read-t17 : tie.Need-shared-slice-read-t17 Inv-loop μ-loop
-shared-slice-read-t17 c = search needs
-
-mul-t18 : tie.Need-mul-t18 Inv-loop μ-loop
-mul-t18 c = search needs
-
-shared-slice-read-t20 : tie.Need-shared-slice-read-t20 Inv-loop μ-loop
-shared-slice-read-t20 c = search needs
-
-mul-t21 : tie.Need-mul-t21 Inv-loop μ-loop
-mul-t21 c = search needs
-
-shared-slice-read-t23 : tie.Need-shared-slice-read-t23 Inv-loop μ-loop
-shared-slice-read-t23 c = search needs
+read-row-requires : tie.Need-read-row-requires Inv-loop μ-loop
+read-row-requires c κs = search needs
 
 is-near-requires : tie.Need-is-near-requires Inv-loop μ-loop
 is-near-requires c κs = search needs
 
-mul-t25 : tie.Need-mul-t25 Inv-loop μ-loop
-mul-t25 c = search needs
-
-shared-slice-read-t27 : tie.Need-shared-slice-read-t27 Inv-loop μ-loop
-shared-slice-read-t27 c = search needs
-
 returns-2 : tie.Need-returns-2 Inv-loop μ-loop
 returns-2 c =
-    let start = c .before .before .before .before .before .before .before .before .before .before .before .before .before .before .before .before in
-    let at-loop = c .before .before .before .before .before .before .before .before .before in
-    ap success (sym (walk-lowest (start .args .sheet) (start .args .keys .now) (start .args .ids .now) (start .args .xs .now) (start .args .ys .now) (start .args .zs .now) (start .args .used) (start .pre .1 .order) (start .args .key) (coords (start .args .sheet .ndim) (start .args .x)) ∙ at-loop .loop .inv .2 ∙ walk-turn (start .args .sheet) (start .args .keys .now) (start .args .ids .now) (start .args .xs .now) (start .args .ys .now) (start .args .zs .now) (start .args .used) (start .pre .1 .order) (start .args .key) (coords (start .args .sheet .ndim) (start .args .x)) (at-loop .loop .i) (c .before .before .before .before .before .before .before .before .loop-test .taken) (c .before .before .before .before .before .before .if1 .left) true (sym (c .before .if2 .taken) ∙ c .before .before .is-near .ensures)))
+    let at-loop = c .before .before .before .before .before .before .before in
+    let start = at-loop .before .before .before .before .before .before .before in
+    let row = c .before .before .before .read-row in
+    ap success (sym (walk-lowest (start .args .sheet) (start .args .keys .now) (start .args .ids .now) (start .args .xs .now) (start .args .ys .now) (start .args .zs .now) (start .args .used) (start .pre .1 .order) (start .args .key) (coords (start .args .sheet .ndim) (start .args .x)) ∙ at-loop .loop .inv .2 ∙ walk-turn (start .args .sheet) (start .args .keys .now) (start .args .ids .now) (start .args .xs .now) (start .args .ys .now) (start .args .zs .now) (start .args .used) (start .pre .1 .order) (start .args .key) (coords (start .args .sheet .ndim) (start .args .x)) (at-loop .loop .i) (c .before .before .before .before .before .before .loop-test .taken) (c .before .before .before .before .if1 .left) (row .result) (row .ensures) true (sym (c .if2 .taken) ∙ c .before .is-near .ensures)))
 
 add-i : tie.Need-add-i Inv-loop μ-loop
 add-i c = search needs
@@ -85,15 +65,17 @@ loop-less c = search needs
 
 loop-again : tie.Need-loop-again Inv-loop μ-loop
 loop-again c =
-    let start = c .before .before .before .before .before .before .before .before .before .before .before .before .before .before .before in
-    let at-loop = c .before .before .before .before .before .before .before .before in
-    let in-loop = c .before .before .before .before .before .before .before in
-    (omega (arith, at-loop .loop .inv .0), omega (arith, in-loop .loop-test .taken), at-loop .loop .inv .2 ∙ walk-turn (start .args .sheet) (start .args .keys .now) (start .args .ids .now) (start .args .xs .now) (start .args .ys .now) (start .args .zs .now) (start .args .used) (start .pre .1 .order) (start .args .key) (coords (start .args .sheet .ndim) (start .args .x)) (at-loop .loop .i) (in-loop .loop-test .taken) (c .before .before .before .before .before .if1 .left) false (sym (c .if2 .left) ∙ c .before .is-near .ensures))
+    let at-loop = c .before .before .before .before .before .before .before in
+    let in-loop = c .before .before .before .before .before .before in
+    let start = at-loop .before .before .before .before .before .before .before in
+    let row = c .before .before .before .read-row in
+    (omega (arith, at-loop .loop .inv .0), omega (arith, in-loop .loop-test .taken), at-loop .loop .inv .2 ∙ walk-turn (start .args .sheet) (start .args .keys .now) (start .args .ids .now) (start .args .xs .now) (start .args .ys .now) (start .args .zs .now) (start .args .used) (start .pre .1 .order) (start .args .key) (coords (start .args .sheet .ndim) (start .args .x)) (at-loop .loop .i) (in-loop .loop-test .taken) (c .before .before .before .before .if1 .left) (row .result) (row .ensures) false (sym (c .if2 .left) ∙ c .before .is-near .ensures))
 
 returns-3 : tie.Need-returns-3 Inv-loop μ-loop
 returns-3 c =
-    let start = c .before .before .before .before .before .before .before .before in
-    ap success (sym (walk-lowest (start .args .sheet) (start .args .keys .now) (start .args .ids .now) (start .args .xs .now) (start .args .ys .now) (start .args .zs .now) (start .args .used) (start .pre .1 .order) (start .args .key) (coords (start .args .sheet .ndim) (start .args .x)) ∙ c .before .loop .inv .2 ∙ walk-end (start .args .sheet) (start .args .keys .now) (start .args .ids .now) (start .args .xs .now) (start .args .ys .now) (start .args .zs .now) (start .args .used) (start .pre .1 .order) (start .args .key) (coords (start .args .sheet .ndim) (start .args .x)) (c .before .loop .i) (c .loop-test .left)))
+    let at-loop = c .before in
+    let start = at-loop .before .before .before .before .before .before .before in
+    ap success (sym (walk-lowest (start .args .sheet) (start .args .keys .now) (start .args .ids .now) (start .args .xs .now) (start .args .ys .now) (start .args .zs .now) (start .args .used) (start .pre .1 .order) (start .args .key) (coords (start .args .sheet .ndim) (start .args .x)) ∙ at-loop .loop .inv .2 ∙ walk-end (start .args .sheet) (start .args .keys .now) (start .args .ids .now) (start .args .xs .now) (start .args .ys .now) (start .args .zs .now) (start .args .used) (start .pre .1 .order) (start .args .key) (coords (start .args .sheet .ndim) (start .args .x)) (at-loop .loop .i) (c .loop-test .left)))
 
 pub find-near-spec : {M : Type 1} → statement M
 find-near-spec =
@@ -101,20 +83,13 @@ find-near-spec =
     (tie.spec
     Inv-loop
     μ-loop
-    position-requires
+    first-of-requires
     loop-holds
     mul-if1
     shared-slice-read-if1
     returns
-    mul-t13
-    shared-slice-read-t17
-    mul-t18
-    shared-slice-read-t20
-    mul-t21
-    shared-slice-read-t23
+    read-row-requires
     is-near-requires
-    mul-t25
-    shared-slice-read-t27
     returns-2
     add-i
     loop-less
