@@ -32,3 +32,4 @@ tried() {
 
 tried gemlab gemlab.stdout
 tried survey survey.expected
+tried edges edges.stdout

@@ -1,0 +1,298 @@
+/* Insertion, search and listing on libraries of every length up to 128, of 65,536 and of 65,537 rows, in 2D and 3D, with
+   every used count up to one above the length. Each list that is lent ends where memory ends, or begins where it begins:
+   pages that may not be touched stand on both sides of it. A refusal has to leave every byte as it was. */
+#define _DEFAULT_SOURCE
+#include "gemlab.h"
+
+#include <inttypes.h>
+#include <stdio.h>
+#include <stdlib.h>
+#include <string.h>
+#include <sys/mman.h>
+#include <unistd.h>
+
+#define SHORT 128
+#define MOST 65536
+#define LISTS 5
+#define NEW_ID (UINT64_C(1) << 40)
+
+/* Memory between two pages that may not be touched. */
+struct area {
+    char *start;
+    size_t size;
+};
+
+static struct area make_area(size_t bytes)
+{
+    size_t page = (size_t)sysconf(_SC_PAGESIZE);
+    struct area area;
+
+    area.size = (bytes + page - 1) / page * page;
+    area.start = mmap(NULL, area.size + 2 * page, PROT_NONE, MAP_PRIVATE | MAP_ANONYMOUS, -1, 0);
+    if (area.start == MAP_FAILED || mprotect(area.start + page, area.size, PROT_READ | PROT_WRITE) != 0) {
+        perror("edges");
+        exit(2);
+    }
+    area.start += page;
+    return area;
+}
+
+/* n entries of 8 bytes, at the area's end or at its start. */
+static void *entries(const struct area *area, size_t n, int at_end)
+{
+    return at_end ? area->start + area->size - n * 8 : area->start;
+}
+
+/* The five lists, the position, the list for ids, and what the five lists held before a call. */
+static struct area lists[LISTS], position, listed;
+static char *before[LISTS];
+static uint64_t numbers[GEMLAB_SHEET_NUMBERS];
+static double floats[GEMLAB_SHEET_FLOATS];
+static uint64_t calls, refusals[32];
+
+static void fail(const char *what, size_t dim, size_t len, uint64_t used, uint64_t number)
+{
+    printf("%s: %zuD, %zu rows, %" PRIu64 " used, returned %" PRIu64 "\n", what, dim, len, used, number);
+    exit(1);
+}
+
+/* A library as it is lent: the lists' entries and lengths, and the count. */
+struct library {
+    void *list[LISTS];
+    size_t len[LISTS];
+    uint64_t used;
+};
+
+/* Rows in order, eight to a container, and past the count entries that are no rows. */
+static struct library fill(size_t len, uint64_t used, int at_end)
+{
+    struct library library;
+    size_t j, i;
+
+    library.used = used;
+    for (j = 0; j < LISTS; j++) {
+        library.len[j] = len;
+        library.list[j] = entries(&lists[j], len, at_end);
+    }
+    for (i = 0; i < len; i++) {
+        uint64_t key = i < used ? i / 8 : UINT64_MAX, id = i < used ? i : 0;
+        double x = i < used ? 0.5 : -1e300, z = i < used ? 0.0 : 7.0;
+
+        memcpy((char *)library.list[0] + 8 * i, &key, 8);
+        memcpy((char *)library.list[1] + 8 * i, &id, 8);
+        memcpy((char *)library.list[2] + 8 * i, &x, 8);
+        memcpy((char *)library.list[3] + 8 * i, &x, 8);
+        memcpy((char *)library.list[4] + 8 * i, &z, 8);
+    }
+    return library;
+}
+
+static void keep(const struct library *library)
+{
+    size_t j;
+
+    for (j = 0; j < LISTS; j++) {
+        memcpy(before[j], library->list[j], library->len[j] * 8);
+    }
+}
+
+/* Whether the entries from the first-th on are as they were. */
+static int kept(const struct library *library, size_t first)
+{
+    size_t j;
+
+    for (j = 0; j < LISTS; j++) {
+        if (library->len[j] > first
+            && memcmp(before[j] + 8 * first, (char *)library->list[j] + 8 * first, (library->len[j] - first) * 8) != 0) {
+            return 0;
+        }
+    }
+    return 1;
+}
+
+static uint64_t insert(struct library *l, uint64_t id, const double *x, size_t x_len)
+{
+    uint64_t number = gemlab_grid_search_insert(numbers, GEMLAB_SHEET_NUMBERS, floats, GEMLAB_SHEET_FLOATS,
+                                                l->list[0], l->len[0], l->list[1], l->len[1], l->list[2], l->len[2],
+                                                l->list[3], l->len[3], l->list[4], l->len[4], &l->used, id, x, x_len);
+    calls++;
+    refusals[number]++;
+    return number;
+}
+
+static uint64_t search(const struct library *l, const double *x, size_t x_len, uint64_t *found, uint64_t *id)
+{
+    uint64_t number = gemlab_grid_search_search(numbers, GEMLAB_SHEET_NUMBERS, floats, GEMLAB_SHEET_FLOATS,
+                                                l->list[0], l->len[0], l->list[1], l->len[1], l->list[2], l->len[2],
+                                                l->list[3], l->len[3], l->list[4], l->len[4], l->used, x, x_len, found, id);
+    calls++;
+    refusals[number]++;
+    return number;
+}
+
+/* The ids on the line through the origin and x. */
+static uint64_t list(const struct library *l, const double *x, size_t x_len, uint64_t *ids, size_t ids_len, uint64_t *count)
+{
+    static const double origin[3] = {0, 0, 0};
+    uint64_t number = gemlab_grid_search_list(numbers, GEMLAB_SHEET_NUMBERS, floats, GEMLAB_SHEET_FLOATS,
+                                              l->list[0], l->len[0], l->list[1], l->len[1], l->list[2], l->len[2],
+                                              l->list[3], l->len[3], l->list[4], l->len[4], l->used, GEMLAB_LINE,
+                                              origin, x_len, x, x_len, 0, GEMLAB_EVERYTHING, 0, 0, 0, ids, ids_len, count);
+    calls++;
+    refusals[number]++;
+    return number;
+}
+
+/* What an insertion that needs so many new rows is to return. */
+static uint64_t expected(size_t len, uint64_t used, uint64_t rows)
+{
+    if (len > MOST) {
+        return 24;
+    }
+    if (used > len) {
+        return 13;
+    }
+    return used + rows > len ? 12 : 0;
+}
+
+/* The three calls on one library: a mark at x that goes into so many containers. */
+static void calls_on(size_t dim, size_t len, uint64_t used, int at_end, double at, uint64_t rows)
+{
+    struct library library = fill(len, used, at_end);
+    double *x = entries(&position, dim, at_end);
+    uint64_t number, wanted = expected(len, used, rows), found = 2, id = 5, count = 9, j;
+    uint64_t *ids = entries(&listed, 1, at_end);
+
+    for (j = 0; j < dim; j++) {
+        x[j] = at;
+    }
+    keep(&library);
+    number = insert(&library, NEW_ID, x, dim);
+    if (number != wanted || !kept(&library, number == 0 ? (size_t)(used + rows) : 0)
+        || library.used != (number == 0 ? used + rows : used)) {
+        fail("insert", dim, len, used, number);
+    }
+    keep(&library);
+    if (wanted == 12) {
+        wanted = 0; /* of the library as it is */
+        rows = 0;
+    }
+    number = search(&library, x, dim, &found, &id);
+    if (number != wanted || !kept(&library, 0)
+        || (number != 0 ? found != 2 || id != 5 : found != (rows > 0) || id != (rows > 0 ? NEW_ID : 5))) {
+        fail("search", dim, len, used, number);
+    }
+    /* on the diagonal lie the mark and, in 2D, the other rows: at (0.5, 0.5), or at (0.5, 0.5, 0) */
+    ids[0] = 3;
+    number = list(&library, x, dim, ids, 0, &count);
+    if (wanted == 0 && rows > 0) {
+        if (number != 14 || count != 9) {
+            fail("list, too short", dim, len, used, number);
+        }
+        if (dim == 3) {
+            number = list(&library, x, dim, ids, 1, &count);
+            if (number != 0 || count != 1 || ids[0] != NEW_ID) {
+                fail("list", dim, len, used, number);
+            }
+        }
+    } else if (wanted != 0 && (number != wanted || count != 9)) {
+        fail("list, refused", dim, len, used, number);
+    }
+    if (!kept(&library, 0) || (wanted != 0 && ids[0] != 3)) {
+        fail("list, memory", dim, len, used, number);
+    }
+}
+
+/* One of the five lists is a row shorter. */
+static void unequal(size_t dim, size_t len, uint64_t used, int at_end)
+{
+    size_t j, k;
+    double *x = entries(&position, dim, at_end);
+
+    for (k = 0; k < dim; k++) {
+        x[k] = 0.25;
+    }
+    for (j = 0; j < LISTS; j++) {
+        struct library library = fill(len, used, at_end);
+        uint64_t number, found = 2, id = 5, count = 9, one = 3, wanted = len > MOST ? 24 : 13;
+
+        library.len[j] = len - 1;
+        if (at_end) {
+            library.list[j] = (char *)library.list[j] + 8;
+        }
+        keep(&library);
+        number = insert(&library, NEW_ID, x, dim);
+        if (number != wanted || !kept(&library, 0) || library.used != used) {
+            fail("insert, unequal", dim, len, used, number);
+        }
+        number = search(&library, x, dim, &found, &id);
+        if (number != wanted || !kept(&library, 0) || found != 2 || id != 5) {
+            fail("search, unequal", dim, len, used, number);
+        }
+        number = list(&library, x, dim, &one, 1, &count);
+        if (number != wanted || !kept(&library, 0) || one != 3 || count != 9) {
+            fail("list, unequal", dim, len, used, number);
+        }
+    }
+}
+
+static void one_length(size_t dim, size_t len, uint64_t used)
+{
+    uint64_t corners = dim == 2 ? 4 : 8;
+    int at_end;
+
+    for (at_end = 0; at_end < 2; at_end++) {
+        /* in the middle of a container, and where four or eight meet */
+        calls_on(dim, len, used, at_end, 97.5, 1);
+        calls_on(dim, len, used, at_end, 97, corners);
+        if (len > 0) {
+            unequal(dim, len, used, at_end);
+        }
+    }
+}
+
+int main(void)
+{
+    static const size_t lengths[2] = {MOST, MOST + 1};
+    size_t dim, len, i;
+    uint64_t used;
+
+    for (i = 0; i < LISTS; i++) {
+        lists[i] = make_area((MOST + 1) * 8);
+        before[i] = malloc((MOST + 1) * 8);
+        if (before[i] == NULL) {
+            return 2;
+        }
+    }
+    position = make_area(3 * 8);
+    listed = make_area(8);
+    for (dim = 2; dim <= 3; dim++) {
+        const double low[3] = {0, 0, 0}, high[3] = {100, 100, 100};
+        uint64_t number = gemlab_grid_search_new(low, dim, high, dim, 1, 100, 1, 1.0 / 512, 1, 0,
+                                                 numbers, GEMLAB_SHEET_NUMBERS, floats, GEMLAB_SHEET_FLOATS);
+
+        if (number != 0) {
+            fail("sheet", dim, 0, 0, number);
+        }
+        for (len = 0; len <= SHORT; len++) {
+            for (used = 0; used <= len + 1; used++) {
+                one_length(dim, len, used);
+            }
+        }
+        for (i = 0; i < 2; i++) {
+            len = lengths[i];
+            one_length(dim, len, 0);
+            one_length(dim, len, len - 8);
+            one_length(dim, len, len - 1);
+            one_length(dim, len, len);
+            one_length(dim, len, len + 1);
+        }
+    }
+    printf("%" PRIu64 " calls\n", calls);
+    for (i = 0; i < sizeof refusals / sizeof refusals[0]; i++) {
+        if (refusals[i] != 0) {
+            printf("returned %zu: %" PRIu64 "\n", i, refusals[i]);
+        }
+    }
+    return 0;
+}
