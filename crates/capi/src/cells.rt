@@ -109,7 +109,7 @@ pub extern "C" fn gemlab_grid_cells_new(
     if refused != 0 {
         return refused;
     }
-    let answer = GridCells::new(
+    let answer = mesh_view::build(
         ndim,
         coords,
         corners,

@@ -98,7 +98,7 @@ pub extern "C" fn gemlab_grid_cells_search(
         r (now (zeta .exit)) (now (found .entry)) (now (found .exit)) (now (cell .entry)) (now (cell .exit)) ⌝ }
 {
     let grid = index_of(numbers, floats);
-    let answer = cell_search::search(grid, coords, corners, keys, cells, large, x, zeta);
+    let answer = mesh_view::search(grid, coords, corners, keys, cells, large, x, zeta);
     match answer {
         FoundCell::Cell(c) => {
             *found = 1;

@@ -25,8 +25,8 @@ front c =
     passed-front (a .ndim) (meshOf (a .coords .now) (a .corners .now)) (settings (c .before .before .before .before .before .before .before .before .before .before .before)) (lentOf (a .keys .now) (a .cells .now) (a .large .now)) (a .numbers .now) (a .floats .now) (c .before .lists-refused .ensures) (c .if1 .left)
 
 -- what the call ensures, by these settings
-answered : (c : tie.After-new) → let s = c .before .before .before .before .before .before .before .before .before .before .before .before .before .before .before .before .before .before .before in Gives (build (s .args .ndim) (meshOf (s .args .coords .now) (s .args .corners .now)) (settings s) (lentOf (s .args .keys .now) (s .args .cells .now) (s .args .large .now))) (c .new .result) (c .new .last .1 .1 .1 .1 .1 .1 .1 .0) (c .new .last .1 .1 .1 .1 .1 .1 .1 .1 .0) (c .new .last .1 .1 .1 .1 .1 .1 .1 .1 .1 .0)
-answered c = rw (c .before .before .before .before .before .before .before .given-float .ensures, c .before .before .before .before .before .before .given-float2 .ensures, c .before .before .before .before .before .given-float3 .ensures, c .before .before .before .before .given-float4 .ensures) at (c .new .ensures)
+answered : (c : tie.After-build) → let s = c .before .before .before .before .before .before .before .before .before .before .before .before .before .before .before .before .before .before .before in Gives (build (s .args .ndim) (meshOf (s .args .coords .now) (s .args .corners .now)) (settings s) (lentOf (s .args .keys .now) (s .args .cells .now) (s .args .large .now))) (c .build .result) (c .build .last .1 .1 .1 .1 .1 .1 .1 .0) (c .build .last .1 .1 .1 .1 .1 .1 .1 .1 .0) (c .build .last .1 .1 .1 .1 .1 .1 .1 .1 .1 .0)
+answered c = rw (c .before .before .before .before .before .before .before .given-float .ensures, c .before .before .before .before .before .before .given-float2 .ensures, c .before .before .before .before .before .given-float3 .ensures, c .before .before .before .before .given-float4 .ensures) at (c .build .ensures)
 
 lists-refused-requires : tie.Need-lists-refused-requires
 lists-refused-requires c κs = search needs
@@ -54,8 +54,8 @@ given-float-requires-3 c κs = search needs
 given-float-requires-4 : tie.Need-given-float-requires-4
 given-float-requires-4 c κs = search needs
 
-new-requires : tie.Need-new-requires
-new-requires c κs = search needs
+build-requires : tie.Need-build-requires
+build-requires c κs = search needs
 
 enum-known-answer : tie.Need-enum-known-answer
 enum-known-answer c = search needs
@@ -125,7 +125,7 @@ gemlab-grid-cells-new-spec =
     given-float-requires-2
     given-float-requires-3
     given-float-requires-4
-    new-requires
+    build-requires
     enum-known-answer
     write-numbers-requires
     write-floats-requires
