@@ -122,8 +122,8 @@ fn container_rows(keys: &[u64], cells: &[u64], used: usize, key: u64) -> Span
     ensures { λ r. ⌜ Own (now (keys .entry)) (now (cells .entry)) used key r ⌝ }
 {
     Span {
-        from: table::position(keys, cells, used, key, 0),
-        to: table::position(keys, cells, used, key + 1, 0),
+        from: table::first_of(keys, cells, used, key),
+        to: table::first_of(keys, cells, used, key + 1),
     }
 }
 

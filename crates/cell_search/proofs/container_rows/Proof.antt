@@ -4,18 +4,18 @@ use borrow.Author.Needs.{needs}
 use Rattle.cell_search.proofs.container_rows.Statement.{statement}
 use Rattle.cell_search.proofs.container_rows.Tie as tie
 
-position-requires : tie.Need-position-requires
-position-requires c κs = search needs
+first-of-requires : tie.Need-first-of-requires
+first-of-requires c κs = search needs
 
-add-position : tie.Need-add-position
-add-position c = search needs
+add-first-of : tie.Need-add-first-of
+add-first-of c = search needs
 
-position-requires-2 : tie.Need-position-requires-2
-position-requires-2 c κs = search needs
+first-of-requires-2 : tie.Need-first-of-requires-2
+first-of-requires-2 c κs = search needs
 
 returns : tie.Need-returns
-returns c = container-part (c .before .before .before .before .args .keys .now) (c .before .before .before .before .args .cells .now) (c .before .before .before .before .args .used) (c .before .before .before .before .args .key) (c .before .position .result) (c .position2 .result) (c .before .before .before .before .pre .0 .in-ids) (c .before .before .before .before .pre .0 .order) (c .before .position .ensures) (c .position2 .ensures)
+returns c = container-part (c .before .before .before .before .args .keys .now) (c .before .before .before .before .args .cells .now) (c .before .before .before .before .args .used) (c .before .before .before .before .args .key) (c .before .first-of .result) (c .first-of2 .result) (c .before .before .before .before .pre .0 .in-ids) (c .before .before .before .before .pre .0 .order) (c .before .first-of .ensures) (c .first-of2 .ensures)
 
 pub container-rows-spec : {M : Type 1} → statement M
 container-rows-spec =
-    tie.close (tie.spec position-requires add-position position-requires-2 returns)
+    tie.close (tie.spec first-of-requires add-first-of first-of-requires-2 returns)
