@@ -3,28 +3,313 @@ ghost use Prim.Native.Nat.{_<_};
 ghost use mathlib.Core.Path.{_≡_};
 ghost use mathlib.Core.Bool.{true, false, _&&_};
 ghost use Rattle.basics.specs.Lists.{all};
+ghost use mathlib.Core.Logic.{_⊎_};
+ghost use lib.Ieee.{Float, inf, neg, lt, le};
+ghost use Rattle.floats.specs.Rounded.{_⊕_, zeroF};
+ghost use Rattle.floats.specs.Sqrt.{sqrtOf};
+ghost use Rattle.floats.specs.Laws.{Binary64};
 ghost use Rattle.geometry.specs.Position.{coords, dimension};
+ghost use Rattle.geometry.specs.Distances.{less, lineOf, dot as dotOf, pointPoint, pointLine};
 ghost use Rattle.grid.specs.Divisions.{counts, division};
 ghost use Rattle.grid.specs.Containers.{containers};
 ghost use Rattle.listing.specs.Place.{asked, unfit, unfitFilter, placeDistance, passes, containerNear, pointNear};
+ghost use Rattle.listing.specs.Window.{told, steady, lies, Tells, Lined, Made};
 use crate::Filter;
 use crate::Place;
+use geometry::Line;
 use geometry::Position;
 use grid::ContainerKey;
 use grid_search::GridSearch;
 
-// The distance of a point from a place: signed for circles and cylinders, negative inside.
-pub(crate) fn distance(ndim: usize, place: Place, x: Position) -> f64
-    requires { ⌜ dimension ndim ≡ true ⌝ ∗ ⌜ unfit ndim (asked ndim place) ≡ false ⌝ }
-    ensures { λ r. ⌜ r ≡ placeDistance (asked ndim place) (coords ndim x) ⌝ }
+// What is known of the distances that lie from one bound to another: those whose squares are from `low` to `high` do, and
+// those whose squares are up to `under` or from `over` on do not. A NaN tells nothing.
+pub(crate) struct Window {
+    pub(crate) from: f64,
+    pub(crate) to: f64,
+    pub(crate) low: f64,
+    pub(crate) high: f64,
+    pub(crate) under: f64,
+    pub(crate) over: f64,
+}
+
+// A place made ready for many points: the line through its ends, and the windows for a container's centre and for a point.
+pub(crate) struct Ready {
+    pub(crate) line: Line,
+    pub(crate) center: Window,
+    pub(crate) point: Window,
+}
+
+// b - a
+fn difference(a: Position, b: Position) -> Position
+    ensures { λ r. ⌜ r ≡ less a b ⌝ }
+{
+    Position {
+        x: b.x - a.x,
+        y: b.y - a.y,
+        z: b.z - a.z,
+    }
+}
+
+// u ⋅ v
+fn dot(ndim: usize, u: Position, v: Position) -> f64
+    requires { ⌜ dimension ndim ≡ true ⌝ }
+    ensures { λ r. ⌜ r ≡ dotOf (coords ndim u) (coords ndim v) ⌝ }
+{
+    if ndim == 2 {
+        u.x * v.x + u.y * v.y
+    } else {
+        u.x * v.x + u.y * v.y + u.z * v.z
+    }
+}
+
+// The square of the distance between two points.
+fn point_square(ndim: usize, a: Position, b: Position) -> f64
+    requires { ⌜ dimension ndim ≡ true ⌝ }
+    ensures { λ r. ⌜ sqrtOf r ≡ pointPoint (coords ndim a) (coords ndim b) ⌝ }
+{
+    let d = difference(a, b);
+    dot(ndim, d, d)
+}
+
+// The square of the distance of a point from a line.
+fn line_square(ndim: usize, line: Line, c: Position) -> f64
+    requires { ⌜ dimension ndim ≡ true ⌝ }
+    ensures { λ r. ⌜ ((a b : Position) → line ≡ lineOf ndim a b → sqrtOf r ≡ pointLine (coords ndim a) (coords ndim b) (coords ndim c)) ⌝ }
+{
+    let n = line.n;
+    let n_dot_n = line.n_dot_n;
+    // x = c - a
+    let x = difference(line.a, c);
+    let x_dot_n = dot(ndim, x, n);
+    // q = x - n * (x ⋅ n) / (n ⋅ n)
+    let q = Position {
+        x: x.x - n.x * x_dot_n / n_dot_n,
+        y: x.y - n.y * x_dot_n / n_dot_n,
+        z: x.z - n.z * x_dot_n / n_dot_n,
+    };
+    dot(ndim, q, q)
+}
+
+// The number that tells the distance of a point: its square, or for a plane the difference from its coordinate.
+fn measure(ndim: usize, place: Place, line: Line, x: Position) -> f64
+    requires { ⌜ dimension ndim ≡ true ⌝ ∗ ⌜ unfit ndim (asked ndim place) ≡ false ⌝ ∗ ⌜ Lined ndim place line ⌝ }
+    ensures { λ r. ⌜ told place r ≡ placeDistance (asked ndim place) (coords ndim x) ⌝ }
 {
     match place {
-        Place::Line(a, b) => geometry::point_line(ndim, a, b, x),
-        Place::Circle(center, radius) => geometry::point_point(ndim, center, x) - radius,
-        Place::Cylinder(a, b, radius) => geometry::point_line(ndim, a, b, x) - radius,
-        Place::PlaneXY(z) => floats::abs(x.z - z),
-        Place::PlaneYZ(v) => floats::abs(x.x - v),
-        Place::PlaneXZ(y) => floats::abs(x.y - y),
+        Place::Line(_, _) => line_square(ndim, line, x),
+        Place::Circle(center, _) => point_square(ndim, center, x),
+        Place::Cylinder(_, _, _) => line_square(ndim, line, x),
+        Place::PlaneXY(z) => x.z - z,
+        Place::PlaneYZ(v) => x.x - v,
+        Place::PlaneXZ(y) => x.y - y,
+    }
+}
+
+// The distance that a number tells.
+fn tell(place: Place, s: f64) -> f64
+    ensures { λ r. ⌜ r ≡ told place s ⌝ }
+{
+    match place {
+        Place::Line(_, _) => floats::sqrt(s),
+        Place::Circle(_, radius) => floats::sqrt(s) - radius,
+        Place::Cylinder(_, _, radius) => floats::sqrt(s) - radius,
+        Place::PlaneXY(_) => floats::abs(s),
+        Place::PlaneYZ(_) => floats::abs(s),
+        Place::PlaneXZ(_) => floats::abs(s),
+    }
+}
+
+// Whether a larger square has no smaller distance.
+fn is_steady(place: Place) -> bool
+    ensures { λ r. ⌜ r ≡ steady place ⌝ }
+{
+    match place {
+        Place::Line(_, _) => true,
+        Place::Circle(_, radius) => floats::is_finite(radius),
+        Place::Cylinder(_, _, radius) => floats::is_finite(radius),
+        Place::PlaneXY(_) => false,
+        Place::PlaneYZ(_) => false,
+        Place::PlaneXZ(_) => false,
+    }
+}
+
+// A square from which on distances are at least a bound: c, where that is seen at c itself, else a NaN.
+fn low_of(place: Place, from: f64, c: f64) -> f64
+    ensures { λ r. ⌜ ((s : Float) → Binary64 s → le r s ≡ true → le from (told place s) ≡ true) ⌝ }
+{
+    if is_steady(place) & ((0.0 < c) & (from <= tell(place, c))) {
+        c
+    } else {
+        0.0 / 0.0
+    }
+}
+
+// A square up to which distances are below a bound.
+fn under_of(place: Place, from: f64, c: f64) -> f64
+    ensures { λ r. ⌜ ((s : Float) → Binary64 s → lt zeroF s ≡ true → le s r ≡ true → le from (told place s) ≡ false) ⌝ }
+{
+    if is_steady(place) & ((0.0 < c) & !(from <= tell(place, c))) {
+        c
+    } else {
+        0.0 / 0.0
+    }
+}
+
+// A square up to which distances are at most a bound.
+fn high_of(place: Place, to: f64, c: f64) -> f64
+    ensures { λ r. ⌜ ((s : Float) → Binary64 s → lt zeroF s ≡ true → le s r ≡ true → le (told place s) to ≡ true) ⌝ }
+{
+    if is_steady(place) & ((0.0 < c) & (tell(place, c) <= to)) {
+        c
+    } else {
+        0.0 / 0.0
+    }
+}
+
+// A square from which on distances are above a bound.
+fn over_of(place: Place, to: f64, c: f64) -> f64
+    ensures { λ r. ⌜ ((s : Float) → Binary64 s → le r s ≡ true → le (told place s) to ≡ false) ⌝ }
+{
+    if is_steady(place) & ((0.0 < c) & !(tell(place, c) <= to)) {
+        c
+    } else {
+        0.0 / 0.0
+    }
+}
+
+// A guess at the square of a distance that lies just beside a bound m, where m is above zero, and else some small number.
+fn beside(m: f64, factor: f64) -> f64 {
+    if m > 0.0 { m * m * factor } else { 1e-300 }
+}
+
+// Of a circle or a cylinder.
+fn radius_of(place: Place) -> f64 {
+    match place {
+        Place::Line(_, _) => 0.0,
+        Place::Circle(_, radius) => radius,
+        Place::Cylinder(_, _, radius) => radius,
+        Place::PlaneXY(_) => 0.0,
+        Place::PlaneYZ(_) => 0.0,
+        Place::PlaneXZ(_) => 0.0,
+    }
+}
+
+// The window of the distances from one bound to another.
+fn window_of(place: Place, from: f64, to: f64) -> Window
+    requires { ⌜ (from ≡ inf true) ⊎ (from ≡ neg to) ⌝ }
+    ensures { λ r. ⌜ Tells place r ⌝ ∗ ⌜ r .from ≡ from ⌝ ∗ ⌜ r .to ≡ to ⌝ }
+{
+    let inner = radius_of(place) + from;
+    let outer = radius_of(place) + to;
+    Window {
+        from,
+        to,
+        low: low_of(place, from, beside(inner, 1.0000000000001)),
+        high: high_of(place, to, beside(outer, 0.9999999999999)),
+        under: under_of(place, from, beside(inner, 0.9999999999999)),
+        over: over_of(place, to, beside(outer, 1.0000000000001)),
+    }
+}
+
+// The line through a place's ends. Of another place it is not used.
+fn line_of(ndim: usize, place: Place) -> Line
+    requires { ⌜ dimension ndim ≡ true ⌝ }
+    ensures { λ r. ⌜ Lined ndim place r ⌝ }
+{
+    match place {
+        Place::Line(a, b) => Line::new(ndim, a, b),
+        Place::Circle(center, _) => Line::new(ndim, center, center),
+        Place::Cylinder(a, b, _) => Line::new(ndim, a, b),
+        Place::PlaneXY(_) => Line::new(
+            ndim,
+            Position {
+                x: 0.0,
+                y: 0.0,
+                z: 0.0,
+            },
+            Position {
+                x: 0.0,
+                y: 0.0,
+                z: 0.0,
+            },
+        ),
+        Place::PlaneYZ(_) => Line::new(
+            ndim,
+            Position {
+                x: 0.0,
+                y: 0.0,
+                z: 0.0,
+            },
+            Position {
+                x: 0.0,
+                y: 0.0,
+                z: 0.0,
+            },
+        ),
+        Place::PlaneXZ(_) => Line::new(
+            ndim,
+            Position {
+                x: 0.0,
+                y: 0.0,
+                z: 0.0,
+            },
+            Position {
+                x: 0.0,
+                y: 0.0,
+                z: 0.0,
+            },
+        ),
+    }
+}
+
+// The place made ready: for a container's centre distances up to container radius + tol_dist count, for a point those
+// whose magnitude is at most tol_dist.
+pub(crate) fn made_ready(sheet: GridSearch, place: Place) -> Ready
+    requires { ⌜ dimension (sheet .ndim) ≡ true ⌝ }
+    ensures { λ r. ⌜ Made (sheet .ndim) place (sheet .radius ⊕ sheet .«tol_dist») (sheet .«tol_dist») r ⌝ }
+{
+    let tol_dist = sheet.tol_dist;
+    Ready {
+        line: line_of(sheet.ndim, place),
+        center: window_of(
+            place,
+            f64::from_bits(0xfff0_0000_0000_0000),
+            sheet.radius + tol_dist,
+        ),
+        point: window_of(place, -tol_dist, tol_dist),
+    }
+}
+
+// Whether the distance that a square tells lies in a window.
+fn square_lies(place: Place, w: Window, s: f64) -> bool
+    requires { ⌜ Tells place w ⌝ }
+    ensures { λ r. ⌜ r ≡ lies (w .from) (w .to) (told place s) ⌝ }
+{
+    if w.over <= s {
+        return false;
+    }
+    if (0.0 < s) & ((w.low <= s) & (s <= w.high)) {
+        return true;
+    }
+    if (0.0 < s) & (s <= w.under) {
+        return false;
+    }
+    let d = tell(place, s);
+    (w.from <= d) & (d <= w.to)
+}
+
+// Whether the distance that a number tells lies in a window.
+fn number_lies(place: Place, w: Window, s: f64) -> bool
+    requires { ⌜ Tells place w ⌝ }
+    ensures { λ r. ⌜ r ≡ lies (w .from) (w .to) (told place s) ⌝ }
+{
+    match place {
+        Place::Line(_, _) => square_lies(place, w, s),
+        Place::Circle(_, _) => square_lies(place, w, s),
+        Place::Cylinder(_, _, _) => square_lies(place, w, s),
+        Place::PlaneXY(_) => floats::is_within(w.to, s),
+        Place::PlaneYZ(_) => floats::is_within(w.to, s),
+        Place::PlaneXZ(_) => floats::is_within(w.to, s),
     }
 }
 
@@ -43,23 +328,35 @@ pub(crate) fn keeps(ndim: usize, filter: Filter, x: Position) -> bool
 }
 
 // Whether a container's centre is within container radius + tol_dist of the place, by the signed distance.
-pub(crate) fn container_near(sheet: GridSearch, place: Place, key: ContainerKey) -> bool
+pub(crate) fn container_near(sheet: GridSearch, place: Place, r: Ready, key: ContainerKey) -> bool
     requires { ⌜ dimension (sheet .ndim) ≡ true ⌝ ∗ ⌜ unfit (sheet .ndim) (asked (sheet .ndim) place) ≡ false ⌝ }
     requires { ⌜ all division (counts (sheet .ndim) (sheet .ndiv)) ≡ true ⌝ ∗ ⌜ key .0 < containers (counts (sheet .ndim) (sheet .ndiv)) ⌝ }
-    ensures { λ r. ⌜ r ≡ containerNear sheet (asked (sheet .ndim) place) (key .0) ⌝ }
+    requires { ⌜ Made (sheet .ndim) place (sheet .radius ⊕ sheet .«tol_dist») (sheet .«tol_dist») r ⌝ }
+    ensures { λ v. ⌜ v ≡ containerNear sheet (asked (sheet .ndim) place) (key .0) ⌝ }
 {
     let ndim = sheet.ndim;
     let center = grid::container_center(ndim, sheet.side_length, sheet.ndiv, sheet.xmin, key);
-    distance(ndim, place, center) <= sheet.radius + sheet.tol_dist
+    let line = r.line;
+    let w = r.center;
+    number_lies(place, w, measure(ndim, place, line, center))
 }
 
 // Whether a point is within tol_dist of the place, by the magnitude of its distance, and kept by the filter.
-pub(crate) fn point_counts(sheet: GridSearch, place: Place, filter: Filter, x: Position) -> bool
+pub(crate) fn point_counts(
+    sheet: GridSearch,
+    place: Place,
+    r: Ready,
+    filter: Filter,
+    x: Position,
+) -> bool
     requires { ⌜ dimension (sheet .ndim) ≡ true ⌝ ∗ ⌜ unfit (sheet .ndim) (asked (sheet .ndim) place) ≡ false ⌝ ∗ ⌜ unfitFilter (sheet .ndim) filter ≡ false ⌝ }
-    ensures { λ r. ⌜ r ≡ (pointNear sheet (asked (sheet .ndim) place) (coords (sheet .ndim) x) && passes filter (coords (sheet .ndim) x)) ⌝ }
+    requires { ⌜ Made (sheet .ndim) place (sheet .radius ⊕ sheet .«tol_dist») (sheet .«tol_dist») r ⌝ }
+    ensures { λ v. ⌜ v ≡ (pointNear sheet (asked (sheet .ndim) place) (coords (sheet .ndim) x) && passes filter (coords (sheet .ndim) x)) ⌝ }
 {
     let ndim = sheet.ndim;
-    if floats::abs(distance(ndim, place, x)) <= sheet.tol_dist {
+    let line = r.line;
+    let w = r.point;
+    if number_lies(place, w, measure(ndim, place, line, x)) {
         keeps(ndim, filter, x)
     } else {
         false

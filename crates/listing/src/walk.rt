@@ -9,12 +9,15 @@ ghost use Rattle.basics.specs.Lists.{over};
 ghost use Rattle.table.specs.Rows.{rowAt, rowsOf};
 ghost use Rattle.sorting.specs.Posts.{within, Below};
 ghost use Rattle.listing.specs.Place.{asked, isOn, containerNear};
+ghost use Rattle.floats.specs.Rounded.{_⊕_};
+ghost use Rattle.listing.specs.Window.{Made};
 ghost use Rattle.listing.specs.Listing.{idsOf};
 ghost use Rattle.listing.specs.Posts.{Known, Remembered, Gathered, Marked, Out};
 use crate::Filter;
 use crate::Listed;
 use crate::Place;
 use crate::near;
+use crate::near::Ready;
 use grid::ContainerKey;
 use grid_search::GridSearch;
 
@@ -30,21 +33,23 @@ fn near_now(
     used: usize,
     place: Place,
     filter: Filter,
+    r: Ready,
     i: usize,
     near: bool,
 ) -> bool
     requires { ⌜ Known sheet (now keys) (now ids) (now xs) (now ys) (now zs) used place filter ⌝ }
     requires { ⌜ (i < used) × Remembered sheet place (now keys) i near ⌝ }
-    ensures { λ r. ⌜ r ≡ containerNear sheet (asked (sheet .ndim) place) (getD (now (keys .entry)) i 0) ⌝ }
+    requires { ⌜ Made (sheet .ndim) place (sheet .radius ⊕ sheet .«tol_dist») (sheet .«tol_dist») r ⌝ }
+    ensures { λ v. ⌜ v ≡ containerNear sheet (asked (sheet .ndim) place) (getD (now (keys .entry)) i 0) ⌝ }
 {
     let key = keys[i];
     if i == 0 {
-        return near::container_near(sheet, place, ContainerKey(key));
+        return near::container_near(sheet, place, r, ContainerKey(key));
     }
     if keys[i - 1] == key {
         return near;
     }
-    near::container_near(sheet, place, ContainerKey(key))
+    near::container_near(sheet, place, r, ContainerKey(key))
 }
 
 // Whether row i counts, where its container is near or not.
@@ -58,18 +63,20 @@ fn row_counts(
     used: usize,
     place: Place,
     filter: Filter,
+    r: Ready,
     i: usize,
     near: bool,
 ) -> bool
     requires { ⌜ Known sheet (now keys) (now ids) (now xs) (now ys) (now zs) used place filter ⌝ }
     requires { ⌜ i < used ⌝ ∗ ⌜ near ≡ containerNear sheet (asked (sheet .ndim) place) (getD (now keys) i 0) ⌝ }
-    ensures { λ r. ⌜ r ≡ isOn sheet (asked (sheet .ndim) place) filter (rowAt (now (keys .entry)) (now (ids .entry)) (now (xs .entry)) (now (ys .entry)) (now (zs .entry)) i) ⌝ }
+    requires { ⌜ Made (sheet .ndim) place (sheet .radius ⊕ sheet .«tol_dist») (sheet .«tol_dist») r ⌝ }
+    ensures { λ v. ⌜ v ≡ isOn sheet (asked (sheet .ndim) place) filter (rowAt (now (keys .entry)) (now (ids .entry)) (now (xs .entry)) (now (ys .entry)) (now (zs .entry)) i) ⌝ }
 {
     if !near {
         return false;
     }
     let row = table::read_row(keys, ids, xs, ys, zs, i);
-    near::point_counts(sheet, place, filter, row.at)
+    near::point_counts(sheet, place, r, filter, row.at)
 }
 
 // n, or one more.
@@ -78,6 +85,65 @@ fn advanced(n: usize, more: bool) -> usize
     ensures { λ r. ⌜ r ≡ cond more (n + 1) n ⌝ }
 {
     if more { n + 1 } else { n }
+}
+
+// Gathers the rows that count at the front of `marks`, with the place made ready. Returns how many there are.
+fn gather_with(
+    sheet: GridSearch,
+    keys: &[u64],
+    ids: &[u64],
+    xs: &[f64],
+    ys: &[f64],
+    zs: &[f64],
+    used: usize,
+    place: Place,
+    filter: Filter,
+    r: Ready,
+    marks: &mut [u16],
+) -> usize
+    requires { ⌜ Known sheet (now keys) (now ids) (now xs) (now ys) (now zs) used place filter ⌝ ∗ ⌜ used ≤ length (now marks) ⌝ }
+    requires { ⌜ Made (sheet .ndim) place (sheet .radius ⊕ sheet .«tol_dist») (sheet .«tol_dist») r ⌝ }
+    ensures { λ n. ⌜ Gathered sheet place filter (now (keys .entry)) (now (ids .entry)) (now (xs .entry)) (now (ys .entry)) (now (zs .entry)) used n (now (marks .exit)) ⌝ }
+{
+    let mut n = 0;
+    let mut near = false;
+    let mut i = 0;
+    while i < used {
+        near = near_now(
+            sheet,
+            keys,
+            ids,
+            xs,
+            ys,
+            zs,
+            used,
+            place,
+            filter,
+            r,
+            i,
+            near,
+        );
+        marks[n] = i as u16;
+        n = advanced(
+            n,
+            row_counts(
+                sheet,
+                keys,
+                ids,
+                xs,
+                ys,
+                zs,
+                used,
+                place,
+                filter,
+                r,
+                i,
+                near,
+            ),
+        );
+        i += 1;
+    }
+    n
 }
 
 // Gathers the rows that count at the front of `marks`. Returns how many there are.
@@ -96,19 +162,8 @@ fn gather(
     requires { ⌜ Known sheet (now keys) (now ids) (now xs) (now ys) (now zs) used place filter ⌝ ∗ ⌜ used ≤ length (now marks) ⌝ }
     ensures { λ r. ⌜ Gathered sheet place filter (now (keys .entry)) (now (ids .entry)) (now (xs .entry)) (now (ys .entry)) (now (zs .entry)) used r (now (marks .exit)) ⌝ }
 {
-    let mut n = 0;
-    let mut near = false;
-    let mut i = 0;
-    while i < used {
-        near = near_now(sheet, keys, ids, xs, ys, zs, used, place, filter, i, near);
-        marks[n] = i as u16;
-        n = advanced(
-            n,
-            row_counts(sheet, keys, ids, xs, ys, zs, used, place, filter, i, near),
-        );
-        i += 1;
-    }
-    n
+    let r = near::made_ready(sheet, place);
+    gather_with(sheet, keys, ids, xs, ys, zs, used, place, filter, r, marks)
 }
 
 // The id of a mark.

@@ -14,7 +14,9 @@ shared-slice-read-key : tie.Need-shared-slice-read-key
 shared-slice-read-key c = search needs
 
 container-near-requires : tie.Need-container-near-requires
-container-near-requires c κs = (c .before .before .before .before .before .before .before .pre .0 .checked .sheet .axes, (c .before .before .before .before .before .before .before .pre .0 .fit, (c .before .before .before .before .before .before .before .pre .0 .checked .sheet .divisions, c .before .before .before .before .before .before .before .pre .0 .keys-below (c .before .before .before .before .before .before .before .args .i) (c .before .before .before .before .before .before .before .pre .1 .0))))
+container-near-requires c κs =
+    let a = c .before .before .before .before .before .before .before in
+    (a .pre .0 .checked .sheet .axes, (a .pre .0 .fit, (a .pre .0 .checked .sheet .divisions, (a .pre .0 .keys-below (a .args .i) (a .pre .1 .0 .0), a .pre .1 .1))))
 
 returns : tie.Need-returns
 returns c = c .container-near .ensures
@@ -29,10 +31,12 @@ shared-slice-read-if2 : tie.Need-shared-slice-read-if2
 shared-slice-read-if2 c = search needs
 
 returns-2 : tie.Need-returns-2
-returns-2 c = c .before .before .before .before .before .before .before .before .before .pre .1 .1 (omega (arith, c .before .before .if1 .left)) ∙ ap (λ (k : ℕ). containerNear (c .before .before .before .before .before .before .before .before .before .args .sheet) (asked (c .before .before .before .before .before .before .before .before .before .args .sheet .ndim) (c .before .before .before .before .before .before .before .before .before .args .place)) k) (c .if2 .taken)
+returns-2 c = c .before .before .before .before .before .before .before .before .before .pre .1 .0 .1 (omega (arith, c .before .before .if1 .left)) ∙ ap (λ (k : ℕ). containerNear (c .before .before .before .before .before .before .before .before .before .args .sheet) (asked (c .before .before .before .before .before .before .before .before .before .args .sheet .ndim) (c .before .before .before .before .before .before .before .before .before .args .place)) k) (c .if2 .taken)
 
 container-near-requires-2 : tie.Need-container-near-requires-2
-container-near-requires-2 c κs = (c .before .before .before .before .before .before .before .before .before .pre .0 .checked .sheet .axes, (c .before .before .before .before .before .before .before .before .before .pre .0 .fit, (c .before .before .before .before .before .before .before .before .before .pre .0 .checked .sheet .divisions, c .before .before .before .before .before .before .before .before .before .pre .0 .keys-below (c .before .before .before .before .before .before .before .before .before .args .i) (c .before .before .before .before .before .before .before .before .before .pre .1 .0))))
+container-near-requires-2 c κs =
+    let a = c .before .before .before .before .before .before .before .before .before in
+    (a .pre .0 .checked .sheet .axes, (a .pre .0 .fit, (a .pre .0 .checked .sheet .divisions, (a .pre .0 .keys-below (a .args .i) (a .pre .1 .0 .0), a .pre .1 .1))))
 
 returns-3 : tie.Need-returns-3
 returns-3 c = c .container-near2 .ensures

@@ -1,0 +1,26 @@
+-- `listing::near::line_square` meets its contract. Assumes nothing.
+use mathlib.Core.Path.{ap, _∙_}
+use Rattle.floats.specs.Sqrt.{sqrtOf}
+use Rattle.geometry.specs.Axes.{distance-is}
+use borrow.Author.Needs.{needs}
+use Rattle.listing.proofs.near.line_square.Statement.{statement}
+use Rattle.listing.proofs.near.line_square.Tie as tie
+
+difference-requires : tie.Need-difference-requires
+difference-requires c κs = search needs
+
+dot-requires : tie.Need-dot-requires
+dot-requires c κs = search needs
+
+dot-requires-2 : tie.Need-dot-requires-2
+dot-requires-2 c κs = search needs
+
+returns : tie.Need-returns
+returns c = λ a b e.
+    let s = c .before .before .before .before .before .before .before .before .before .before .args in
+    let d = c .before .before .before .before .before .before .before .before .difference in
+    let x = c .before .before .before .before .before .before .before .dot in
+    ap sqrtOf (c .dot2 .ensures) ∙ distance-is (s .ndim) a b (s .c) (s .line) (d .result) (x .result) e (d .ensures) (x .ensures)
+
+pub line-square-spec : {M : Type 1} → statement M
+line-square-spec = tie.close (tie.spec difference-requires dot-requires dot-requires-2 returns)

@@ -1,0 +1,21 @@
+-- `listing::near::point_square` meets its contract. Assumes nothing.
+use mathlib.Core.Path.{ap, _∙_}
+use Rattle.floats.specs.Sqrt.{sqrtOf}
+use Rattle.geometry.specs.Axes.{dot-less}
+use Rattle.geometry.specs.Distances.{pointPoint}
+use borrow.Author.Needs.{needs}
+use Rattle.listing.proofs.near.point_square.Statement.{statement}
+use Rattle.listing.proofs.near.point_square.Tie as tie
+
+difference-requires : tie.Need-difference-requires
+difference-requires c κs = search needs
+
+dot-requires : tie.Need-dot-requires
+dot-requires c κs = search needs
+
+returns : tie.Need-returns
+unfolding pointPoint
+returns c = let s = c .before .before .args in ap sqrtOf (c .dot .ensures ∙ dot-less (s .ndim) (s .a) (s .b) (c .before .difference .result) (c .before .difference .ensures))
+
+pub point-square-spec : {M : Type 1} → statement M
+point-square-spec = tie.close (tie.spec difference-requires dot-requires returns)
