@@ -2,45 +2,21 @@
    every used count up to one above the length. Each list that is lent ends where memory ends, or begins where it begins:
    pages that may not be touched stand on both sides of it. A refusal has to leave every byte as it was. */
 #define _DEFAULT_SOURCE
+#include "areas.h"
 #include "gemlab.h"
 
 #include <inttypes.h>
-#include <stdio.h>
-#include <stdlib.h>
 #include <string.h>
-#include <sys/mman.h>
-#include <unistd.h>
 
 #define SHORT 128
 #define MOST 65536
 #define LISTS 5
 #define NEW_ID (UINT64_C(1) << 40)
 
-/* Memory between two pages that may not be touched. */
-struct area {
-    char *start;
-    size_t size;
-};
-
-static struct area make_area(size_t bytes)
-{
-    size_t page = (size_t)sysconf(_SC_PAGESIZE);
-    struct area area;
-
-    area.size = (bytes + page - 1) / page * page;
-    area.start = mmap(NULL, area.size + 2 * page, PROT_NONE, MAP_PRIVATE | MAP_ANONYMOUS, -1, 0);
-    if (area.start == MAP_FAILED || mprotect(area.start + page, area.size, PROT_READ | PROT_WRITE) != 0) {
-        perror("edges");
-        exit(2);
-    }
-    area.start += page;
-    return area;
-}
-
 /* n entries of 8 bytes, at the area's end or at its start. */
 static void *entries(const struct area *area, size_t n, int at_end)
 {
-    return at_end ? area->start + area->size - n * 8 : area->start;
+    return sized_entries(area, n, 8, at_end);
 }
 
 /* The five lists, the position, the list for ids, and what the five lists held before a call. */

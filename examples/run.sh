@@ -33,3 +33,4 @@ tried() {
 tried gemlab gemlab.stdout
 tried survey survey.expected
 tried edges edges.stdout
+tried cell_edges cell_edges.stdout

@@ -1,0 +1,36 @@
+/* Memory between two pages that may not be touched, for lists that end where memory ends or begin where it begins. */
+#ifndef AREAS_H
+#define AREAS_H
+
+#include <stdio.h>
+#include <stdlib.h>
+#include <sys/mman.h>
+#include <unistd.h>
+
+struct area {
+    char *start;
+    size_t size;
+};
+
+static struct area make_area(size_t bytes)
+{
+    size_t page = (size_t)sysconf(_SC_PAGESIZE);
+    struct area area;
+
+    area.size = (bytes + page - 1) / page * page;
+    area.start = mmap(NULL, area.size + 2 * page, PROT_NONE, MAP_PRIVATE | MAP_ANONYMOUS, -1, 0);
+    if (area.start == MAP_FAILED || mprotect(area.start + page, area.size, PROT_READ | PROT_WRITE) != 0) {
+        perror("areas");
+        exit(2);
+    }
+    area.start += page;
+    return area;
+}
+
+/* n entries of so many bytes each, at the area's end or at its start. */
+static void *sized_entries(const struct area *area, size_t n, size_t size, int at_end)
+{
+    return at_end ? area->start + area->size - n * size : area->start;
+}
+
+#endif
