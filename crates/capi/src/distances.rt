@@ -17,6 +17,7 @@ fn told(answer: Measured, distance: &mut f64) -> u64
     }
 }
 
+// Writes the distance between two positions. Returns 0, or the refusal 1, 2 or 3, and then writes nothing.
 #[no_mangle]
 pub extern "C" fn gemlab_point_point_distance(a: &[f64], b: &[f64], distance: &mut f64) -> u64
     ensures { λ r. ⌜ Told (pointPointAnswer (now (a .entry)) (now (b .entry))) r (now (distance .entry)) (now (distance .exit)) ⌝ }
@@ -24,6 +25,7 @@ pub extern "C" fn gemlab_point_point_distance(a: &[f64], b: &[f64], distance: &m
     told(geometry::point_point_distance(a, b), distance)
 }
 
+// Writes the distance of c to the line through a and b. Returns 0, or the refusal 1, 2, 3 or 15, and then writes nothing.
 #[no_mangle]
 pub extern "C" fn gemlab_point_line_distance(
     a: &[f64],
@@ -36,6 +38,8 @@ pub extern "C" fn gemlab_point_line_distance(
     told(geometry::point_line_distance(a, b, c), distance)
 }
 
+// Writes the signed distance of p to a circle, negative inside. Returns 0, or the refusal 1, 16, 2 or 3, and then writes
+// nothing.
 #[no_mangle]
 pub extern "C" fn gemlab_point_circle_distance(
     center: &[f64],
@@ -48,6 +52,8 @@ pub extern "C" fn gemlab_point_circle_distance(
     told(geometry::point_circle_distance(center, radius, p), distance)
 }
 
+// Writes the signed distance of p to a cylinder, negative inside. Returns 0, or the refusal 1, 16, 2, 3 or 15, and then
+// writes nothing.
 #[no_mangle]
 pub extern "C" fn gemlab_point_cylinder_distance(
     a: &[f64],

@@ -10,6 +10,8 @@ use rows::Inserted;
 use search::Found;
 use table::ItemId;
 
+// Puts a mark into its own container and those of its halo corners, and writes the new count. Returns 0, or the first of 24,
+// 13, 2, 3, 11, 17 and 12 that applies, and then writes nothing.
 #[no_mangle]
 pub extern "C" fn gemlab_grid_search_insert(
     numbers: &[u64],
@@ -39,6 +41,8 @@ pub extern "C" fn gemlab_grid_search_insert(
     }
 }
 
+// Tells whether a mark is near a position: found is 1 and id the lowest near one, or found is 0 and id stays. Returns 0, or
+// the first of 24, 13, 2, 3, 11 and 17 that applies, and then writes nothing.
 #[no_mangle]
 pub extern "C" fn gemlab_grid_search_search(
     numbers: &[u64],
