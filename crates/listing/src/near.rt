@@ -90,21 +90,6 @@ fn line_square(ndim: usize, line: Line, c: Position) -> f64
     dot(ndim, q, q)
 }
 
-// The number that tells the distance of a point: its square, or for a plane the difference from its coordinate.
-fn measure(ndim: usize, place: Place, line: Line, x: Position) -> f64
-    requires { ⌜ dimension ndim ≡ true ⌝ ∗ ⌜ unfit ndim (asked ndim place) ≡ false ⌝ ∗ ⌜ Lined ndim place line ⌝ }
-    ensures { λ r. ⌜ told place r ≡ placeDistance (asked ndim place) (coords ndim x) ⌝ }
-{
-    match place {
-        Place::Line(_, _) => line_square(ndim, line, x),
-        Place::Circle(center, _) => point_square(ndim, center, x),
-        Place::Cylinder(_, _, _) => line_square(ndim, line, x),
-        Place::PlaneXY(z) => x.z - z,
-        Place::PlaneYZ(v) => x.x - v,
-        Place::PlaneXZ(y) => x.y - y,
-    }
-}
-
 // The distance that a number tells.
 fn tell(place: Place, s: f64) -> f64
     ensures { λ r. ⌜ r ≡ told place s ⌝ }
@@ -298,18 +283,18 @@ fn square_lies(place: Place, w: Window, s: f64) -> bool
     (w.from <= d) & (d <= w.to)
 }
 
-// Whether the distance that a number tells lies in a window.
-fn number_lies(place: Place, w: Window, s: f64) -> bool
-    requires { ⌜ Tells place w ⌝ }
-    ensures { λ r. ⌜ r ≡ lies (w .from) (w .to) (told place s) ⌝ }
+// Whether the distance of a point lies in a window.
+fn point_lies(ndim: usize, place: Place, line: Line, w: Window, x: Position) -> bool
+    requires { ⌜ dimension ndim ≡ true ⌝ ∗ ⌜ unfit ndim (asked ndim place) ≡ false ⌝ ∗ ⌜ Lined ndim place line ⌝ ∗ ⌜ Tells place w ⌝ }
+    ensures { λ r. ⌜ r ≡ lies (w .from) (w .to) (placeDistance (asked ndim place) (coords ndim x)) ⌝ }
 {
     match place {
-        Place::Line(_, _) => square_lies(place, w, s),
-        Place::Circle(_, _) => square_lies(place, w, s),
-        Place::Cylinder(_, _, _) => square_lies(place, w, s),
-        Place::PlaneXY(_) => floats::is_within(w.to, s),
-        Place::PlaneYZ(_) => floats::is_within(w.to, s),
-        Place::PlaneXZ(_) => floats::is_within(w.to, s),
+        Place::Line(_, _) => square_lies(place, w, line_square(ndim, line, x)),
+        Place::Circle(center, _) => square_lies(place, w, point_square(ndim, center, x)),
+        Place::Cylinder(_, _, _) => square_lies(place, w, line_square(ndim, line, x)),
+        Place::PlaneXY(z) => floats::is_within(w.to, x.z - z),
+        Place::PlaneYZ(v) => floats::is_within(w.to, x.x - v),
+        Place::PlaneXZ(y) => floats::is_within(w.to, x.y - y),
     }
 }
 
@@ -338,7 +323,7 @@ pub(crate) fn container_near(sheet: GridSearch, place: Place, r: Ready, key: Con
     let center = grid::container_center(ndim, sheet.side_length, sheet.ndiv, sheet.xmin, key);
     let line = r.line;
     let w = r.center;
-    number_lies(place, w, measure(ndim, place, line, center))
+    point_lies(ndim, place, line, w, center)
 }
 
 // Whether a point is within tol_dist of the place, by the magnitude of its distance, and kept by the filter.
@@ -356,7 +341,7 @@ pub(crate) fn point_counts(
     let ndim = sheet.ndim;
     let line = r.line;
     let w = r.point;
-    if number_lies(place, w, measure(ndim, place, line, x)) {
+    if point_lies(ndim, place, line, w, x) {
         keeps(ndim, filter, x)
     } else {
         false
