@@ -10,6 +10,7 @@ ghost use lib.ListN.{getD};
 ghost use Rattle.basics.specs.Lists.{all};
 ghost use Rattle.basics.specs.Refusals.{refuse, fault, answer, through};
 ghost use Rattle.floats.specs.Rounded.{_⊖_, zeroF};
+ghost use Rattle.floats.specs.Sqrt.{sqrtOf};
 ghost use Rattle.geometry.specs.Position.{coords, positionOf, axisOf, dimension, coordinate};
 ghost use Rattle.geometry.specs.Distances.{less, lineOf, dot as dotOf, pointPoint, tooClose, pointLine};
 ghost use Rattle.geometry.specs.Distances.{measured, pointPointAnswer, pointLineAnswer, pointCircleAnswer, pointCylinderAnswer};
@@ -136,13 +137,40 @@ fn dot(ndim: usize, u: Position, v: Position) -> f64
     }
 }
 
+// The square of the distance between two points.
+pub fn point_square(ndim: usize, a: Position, b: Position) -> f64
+    requires { ⌜ dimension ndim ≡ true ⌝ }
+    ensures { λ r. ⌜ sqrtOf r ≡ pointPoint (coords ndim a) (coords ndim b) ⌝ }
+{
+    let d = difference(a, b);
+    dot(ndim, d, d)
+}
+
 // The distance between two points.
 pub fn point_point(ndim: usize, a: Position, b: Position) -> f64
     requires { ⌜ dimension ndim ≡ true ⌝ }
     ensures { λ r. ⌜ r ≡ pointPoint (coords ndim a) (coords ndim b) ⌝ }
 {
-    let d = difference(a, b);
-    floats::sqrt(dot(ndim, d, d))
+    floats::sqrt(point_square(ndim, a, b))
+}
+
+// The square of the distance of a point from a line.
+pub fn line_square(ndim: usize, line: Line, c: Position) -> f64
+    requires { ⌜ dimension ndim ≡ true ⌝ }
+    ensures { λ r. ⌜ ((a b : Position) → line ≡ lineOf ndim a b → sqrtOf r ≡ pointLine (coords ndim a) (coords ndim b) (coords ndim c)) ⌝ }
+{
+    let n = line.n;
+    let n_dot_n = line.n_dot_n;
+    // x = c - a
+    let x = difference(line.a, c);
+    let x_dot_n = dot(ndim, x, n);
+    // q = x - n * (x ⋅ n) / (n ⋅ n)
+    let q = Position {
+        x: x.x - n.x * x_dot_n / n_dot_n,
+        y: x.y - n.y * x_dot_n / n_dot_n,
+        z: x.z - n.z * x_dot_n / n_dot_n,
+    };
+    dot(ndim, q, q)
 }
 
 impl Line {
@@ -170,18 +198,7 @@ impl Line {
         requires { ⌜ dimension ndim ≡ true ⌝ }
         ensures { λ r. ⌜ ((a b : Position) → self ≡ lineOf ndim a b → r ≡ pointLine (coords ndim a) (coords ndim b) (coords ndim c)) ⌝ }
     {
-        let n = self.n;
-        let n_dot_n = self.n_dot_n;
-        // x = c - a
-        let x = difference(self.a, c);
-        let x_dot_n = dot(ndim, x, n);
-        // q = x - n * (x ⋅ n) / (n ⋅ n)
-        let q = Position {
-            x: x.x - n.x * x_dot_n / n_dot_n,
-            y: x.y - n.y * x_dot_n / n_dot_n,
-            z: x.z - n.z * x_dot_n / n_dot_n,
-        };
-        floats::sqrt(dot(ndim, q, q))
+        floats::sqrt(line_square(ndim, self, c))
     }
 }
 

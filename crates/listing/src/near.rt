@@ -6,10 +6,8 @@ ghost use Rattle.basics.specs.Lists.{all};
 ghost use mathlib.Core.Logic.{_⊎_};
 ghost use lib.Ieee.{Float, inf, neg, lt, le};
 ghost use Rattle.floats.specs.Rounded.{_⊕_, zeroF};
-ghost use Rattle.floats.specs.Sqrt.{sqrtOf};
 ghost use Rattle.floats.specs.Laws.{Binary64};
 ghost use Rattle.geometry.specs.Position.{coords, dimension};
-ghost use Rattle.geometry.specs.Distances.{less, lineOf, dot as dotOf, pointPoint, pointLine};
 ghost use Rattle.grid.specs.Divisions.{counts, division};
 ghost use Rattle.grid.specs.Containers.{containers};
 ghost use Rattle.listing.specs.Place.{asked, unfit, unfitFilter, placeDistance, passes, containerNear, pointNear};
@@ -37,57 +35,6 @@ pub(crate) struct Ready {
     pub(crate) line: Line,
     pub(crate) center: Window,
     pub(crate) point: Window,
-}
-
-// b - a
-fn difference(a: Position, b: Position) -> Position
-    ensures { λ r. ⌜ r ≡ less a b ⌝ }
-{
-    Position {
-        x: b.x - a.x,
-        y: b.y - a.y,
-        z: b.z - a.z,
-    }
-}
-
-// u ⋅ v
-fn dot(ndim: usize, u: Position, v: Position) -> f64
-    requires { ⌜ dimension ndim ≡ true ⌝ }
-    ensures { λ r. ⌜ r ≡ dotOf (coords ndim u) (coords ndim v) ⌝ }
-{
-    if ndim == 2 {
-        u.x * v.x + u.y * v.y
-    } else {
-        u.x * v.x + u.y * v.y + u.z * v.z
-    }
-}
-
-// The square of the distance between two points.
-fn point_square(ndim: usize, a: Position, b: Position) -> f64
-    requires { ⌜ dimension ndim ≡ true ⌝ }
-    ensures { λ r. ⌜ sqrtOf r ≡ pointPoint (coords ndim a) (coords ndim b) ⌝ }
-{
-    let d = difference(a, b);
-    dot(ndim, d, d)
-}
-
-// The square of the distance of a point from a line.
-fn line_square(ndim: usize, line: Line, c: Position) -> f64
-    requires { ⌜ dimension ndim ≡ true ⌝ }
-    ensures { λ r. ⌜ ((a b : Position) → line ≡ lineOf ndim a b → sqrtOf r ≡ pointLine (coords ndim a) (coords ndim b) (coords ndim c)) ⌝ }
-{
-    let n = line.n;
-    let n_dot_n = line.n_dot_n;
-    // x = c - a
-    let x = difference(line.a, c);
-    let x_dot_n = dot(ndim, x, n);
-    // q = x - n * (x ⋅ n) / (n ⋅ n)
-    let q = Position {
-        x: x.x - n.x * x_dot_n / n_dot_n,
-        y: x.y - n.y * x_dot_n / n_dot_n,
-        z: x.z - n.z * x_dot_n / n_dot_n,
-    };
-    dot(ndim, q, q)
 }
 
 // The distance that a number tells.
@@ -289,9 +236,9 @@ fn point_lies(ndim: usize, place: Place, line: Line, w: Window, x: Position) -> 
     ensures { λ r. ⌜ r ≡ lies (w .from) (w .to) (placeDistance (asked ndim place) (coords ndim x)) ⌝ }
 {
     match place {
-        Place::Line(_, _) => square_lies(place, w, line_square(ndim, line, x)),
-        Place::Circle(center, _) => square_lies(place, w, point_square(ndim, center, x)),
-        Place::Cylinder(_, _, _) => square_lies(place, w, line_square(ndim, line, x)),
+        Place::Line(_, _) => square_lies(place, w, geometry::line_square(ndim, line, x)),
+        Place::Circle(center, _) => square_lies(place, w, geometry::point_square(ndim, center, x)),
+        Place::Cylinder(_, _, _) => square_lies(place, w, geometry::line_square(ndim, line, x)),
         Place::PlaneXY(z) => floats::is_within(w.to, x.z - z),
         Place::PlaneYZ(v) => floats::is_within(w.to, x.x - v),
         Place::PlaneXZ(y) => floats::is_within(w.to, x.y - y),

@@ -1,11 +1,11 @@
--- `listing::near::point_square` meets its contract. Assumes nothing.
+-- `geometry::point_square` meets its contract. Assumes nothing.
 use mathlib.Core.Path.{ap, _∙_}
 use Rattle.floats.specs.Sqrt.{sqrtOf}
 use Rattle.geometry.specs.Axes.{dot-less}
 use Rattle.geometry.specs.Distances.{pointPoint}
 use borrow.Author.Needs.{needs}
-use Rattle.listing.proofs.near.point_square.Statement.{statement}
-use Rattle.listing.proofs.near.point_square.Tie as tie
+use Rattle.geometry.proofs.point_square.Statement.{statement}
+use Rattle.geometry.proofs.point_square.Tie as tie
 
 difference-requires : tie.Need-difference-requires
 difference-requires c κs = search needs

@@ -1,10 +1,10 @@
--- `listing::near::line_square` meets its contract. Assumes nothing.
+-- `geometry::line_square` meets its contract. Assumes nothing.
 use mathlib.Core.Path.{ap, _∙_}
 use Rattle.floats.specs.Sqrt.{sqrtOf}
 use Rattle.geometry.specs.Axes.{distance-is}
 use borrow.Author.Needs.{needs}
-use Rattle.listing.proofs.near.line_square.Statement.{statement}
-use Rattle.listing.proofs.near.line_square.Tie as tie
+use Rattle.geometry.proofs.line_square.Statement.{statement}
+use Rattle.geometry.proofs.line_square.Tie as tie
 
 difference-requires : tie.Need-difference-requires
 difference-requires c κs = search needs
