@@ -210,14 +210,6 @@ pub fn too_close(ndim: usize, a: Position, b: Position) -> bool
     Line::new(ndim, a, b).too_close()
 }
 
-// The distance of a point c to the line through a and b.
-pub fn point_line(ndim: usize, a: Position, b: Position, c: Position) -> f64
-    requires { ⌜ dimension ndim ≡ true ⌝ }
-    ensures { λ r. ⌜ r ≡ pointLine (coords ndim a) (coords ndim b) (coords ndim c) ⌝ }
-{
-    Line::new(ndim, a, b).distance(ndim, c)
-}
-
 // The distance between two points, or the refusal 1, 2 or 3.
 pub fn point_point_distance(a: &[f64], b: &[f64]) -> Measured
     ensures { λ r. ⌜ measured r ≡ pointPointAnswer (now (a .entry)) (now (b .entry)) ⌝ }
