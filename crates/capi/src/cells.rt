@@ -11,9 +11,9 @@ use grid_cells::Built;
 use grid_cells::GridCells;
 
 // How many entries an index's lists have.
-pub const NUMBERS: usize = 6;
+pub(crate) const NUMBERS: usize = 6;
 
-pub const FLOATS: usize = 7;
+pub(crate) const FLOATS: usize = 7;
 
 // 1, 24, or 13 for an index list of another length; or 0.
 fn lists_refused(

@@ -17,7 +17,7 @@ const NUMBERS: usize = 8;
 const FLOATS: usize = 17;
 
 // A setting from its flag and its value: any flag but 0 means given.
-pub fn given_number(flag: u64, value: u64) -> GivenU64
+pub(crate) fn given_number(flag: u64, value: u64) -> GivenU64
     ensures { λ r. ⌜ r ≡ givenNumber flag value ⌝ }
 {
     if flag == 0 {
@@ -26,7 +26,7 @@ pub fn given_number(flag: u64, value: u64) -> GivenU64
     GivenU64::Given(value)
 }
 
-pub fn given_float(flag: u64, value: f64) -> GivenF64
+pub(crate) fn given_float(flag: u64, value: f64) -> GivenF64
     ensures { λ r. ⌜ r ≡ givenFloat flag value ⌝ }
 {
     if flag == 0 {
@@ -183,7 +183,7 @@ fn readable(numbers: &[u64], floats: &[f64]) -> bool
 }
 
 // The position whose coordinates start at entry i.
-pub fn position_at(floats: &[f64], i: usize) -> Position
+pub(crate) fn position_at(floats: &[f64], i: usize) -> Position
     requires { ⌜ i + 2 < length (now floats) ⌝ }
     ensures { λ r. ⌜ r ≡ positionAt i (now (floats .entry)) ⌝ }
 {
@@ -253,7 +253,7 @@ fn no_sheet() -> GridSearch
 }
 
 // The sheet in two lists that were handed in.
-pub fn sheet_of(numbers: &[u64], floats: &[f64]) -> GridSearch
+pub(crate) fn sheet_of(numbers: &[u64], floats: &[f64]) -> GridSearch
     ensures { λ r. ⌜ r ≡ sheetOf (now (numbers .entry)) (now (floats .entry)) ⌝ }
 {
     if readable(numbers, floats) {
