@@ -1,8 +1,11 @@
 #!/bin/sh
 # compare/run.sh [PART..]: builds the static libraries and the comparison, and runs it. Without a part, it also checks
 # that gemlab still gives the answers that are stored in this repository (docs/STORED.md).
-# GEMLAB_SRC names the folder of gemlab's source, where that is not ../shared/docs/src from the repository's root.
+# GEMLAB_SRC names the folder that holds gemlab's src/, where that is not ../shared/docs/src from the repository's root.
 set -eu
+unset CDPATH
+GEMLAB_SRC=$("$(dirname "$0")"/source)
+export GEMLAB_SRC
 cd "$(dirname "$0")/.."
 HRBOTAJ_LIB=$(./staticlib probe capi)
 export HRBOTAJ_LIB

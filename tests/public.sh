@@ -2,46 +2,136 @@
 # tests/public.sh: a public call asks nothing of its caller. Each of those named here has to be there, with an `ensures` and
 # no `requires`; and crate `capi` shows nothing else than such calls.
 set -eu
+unset CDPATH
 cd "$(dirname "$0")/.."
 failed=0
 
-# What stands between a function's name and its body, in the files of a crate.
-contract() {
-    awk -v name="$2" '
-        $0 ~ "^ *pub (extern \"C\" )?fn " name "[(<]" { on = 1; print "found" }
-        on { print }
-        on && /^ *[{]/ { on = 0 }
-    ' crates/"$1"/src/*.rt
+# A line for each public function in these files: its name, and what stands in front of its body, `requires` or `ensures`.
+contracts() {
+    awk '
+        function clauses(text,    c, said, word, depth) {
+            while (text != "") {
+                if (match(text, /^[A-Za-z_0-9]+/)) {
+                    word = substr(text, 1, RLENGTH)
+                    text = substr(text, RLENGTH + 1)
+                    continue
+                }
+                c = substr(text, 1, 1)
+                text = substr(text, 2)
+                if (c == "{") {
+                    if (depth == 0 && word !~ /^(requires|ensures)$/)
+                        break
+                    if (depth++ == 0)
+                        said = said " " word
+                } else if (c == "}") {
+                    depth--
+                }
+                if (c !~ /[ \t\n]/)
+                    word = ""
+            }
+            return said
+        }
+        function scan(    name) {
+            while (match(all, /pub +(extern +"C" +)?fn +[A-Za-z_0-9]+/)) {
+                name = substr(all, RSTART, RLENGTH)
+                sub(/.* /, "", name)
+                all = substr(all, RSTART + RLENGTH)
+                print name clauses(all)
+            }
+            all = ""
+        }
+        FNR == 1 { scan() }
+        { sub(/\/\/.*/, ""); all = all $0 "\n" }
+        END { scan() }
+    ' "$@"
 }
 
 # asks_nothing CRATE FUNCTION..
 asks_nothing() {
     crate=$1
     shift
+    contracts crates/"$crate"/src/*.rt >"$work/contracts"
     for name; do
-        text=$(contract "$crate" "$name")
-        case $text in
-        *requires*) echo "public: $crate: $name asks something of its caller" && failed=1 ;;
-        *found*ensures*) ;;
-        *) echo "public: $crate: no $name with a promise" && failed=1 ;;
-        esac
+        grep "^$name\( \|\$\)" "$work/contracts" >"$work/here" || {
+            echo "public: $crate: no $name" && failed=1
+        }
+        while read -r _ said; do
+            case " $said " in
+            *' requires '*) echo "public: $crate: $name asks something of its caller" && failed=1 ;;
+            *' ensures '*) ;;
+            *) echo "public: $crate: $name promises nothing" && failed=1 ;;
+            esac
+        done <"$work/here"
     done
+}
+
+work=$(mktemp -d)
+trap 'rm -rf "$work"' EXIT
+
+# What this looks at, on an example.
+cat >"$work/example.rt" <<'END'
+pub fn on_one_line(x: u64) -> u64 {
+    x
+}
+// pub fn in_a_comment() requires { x }
+fn private(x: u64) -> u64
+    requires { ⌜ x < 5 ⌝ }
+    ensures { λ r. ⌜ r ≡ x ⌝ }
+{
+    x
+}
+pub fn asks<'a>(x: &'a [u64]) -> u64
+    requires { ⌜ 0 < length (now x) ⌝ }
+    ensures { λ r. ⌜ r ≡ 0 ⌝ } {
+    0
+}
+impl X {
+    pub fn promises(self) -> u64 ensures { λ r. cond { r } { 0 } } {
+        // requires {
+        self.requires
+    }
+}
+pub extern "C" fn to_c(
+    x: u64,
+) -> u64
+    ensures {
+        λ r. ⌜ r ≡ x ⌝
+    }
+{
+    X { requires: x }.requires
+}
+pub fn promises(x: u64)
+{
+}
+END
+cat >"$work/expected" <<'END'
+on_one_line
+asks requires ensures
+promises ensures
+to_c ensures
+promises
+END
+contracts "$work/example.rt" | diff "$work/expected" - || {
+    echo "public: an example is read otherwise" && failed=1
 }
 
 asks_nothing geometry point_point_distance point_line_distance point_circle_distance point_cylinder_distance
 asks_nothing grid_search new
 asks_nothing rows insert
 asks_nothing search search
-asks_nothing listing search_on_line search_on_circle search_on_cylinder search_on_plane_xy search_on_plane_yz search_on_plane_xz
+asks_nothing listing search_on search_on_place
+asks_nothing listing search_on_line search_on_circle search_on_cylinder
+asks_nothing listing search_on_plane_xy search_on_plane_yz search_on_plane_xz
 asks_nothing grid_cells new
 asks_nothing cell_search search
 asks_nothing mesh_view new count corner grid_cells search build
 calls=$(sed -n 's/^uint64_t \(gemlab_[a-z_]*\)(.*/\1/p' include/gemlab.h)
 # shellcheck disable=SC2086
 asks_nothing capi $calls
-others=$(sed -n 's/^ *pub fn \([a-z_]*\).*/\1/p' crates/capi/src/*.rt)
-if [ -n "$others" ] || [ "$(echo "$calls" | wc -l)" -ne 10 ]; then
-    echo "public: capi shows more than the ten calls of its header: $others" && failed=1
+others=$(contracts crates/capi/src/*.rt | sed 's/ .*//' | grep -v '^gemlab_' || :)
+shown=$(contracts crates/capi/src/*.rt | grep -c '^gemlab_')
+if [ -n "$others" ] || [ "$(echo "$calls" | wc -l)" -ne 10 ] || [ "$shown" -ne 10 ]; then
+    echo "public: capi shows other calls than the ten of its header: $shown, and $others" && failed=1
 fi
 [ "$failed" -eq 0 ] && echo "public: every public call promises something and asks nothing"
 exit $failed
