@@ -114,7 +114,7 @@ extern "C" fn rust_ceil(x: f64) -> f64 {
 }
 
 /// A call of each function, in one run.
-pub fn measure(_: &mut Tally) {
+pub fn measure() {
     let mut r = Random::new(2);
     let small: Vec<f64> = (0..16384).map(|_| r.between(0.5, 2.0)).collect();
     let any: Vec<f64> = (0..16384).map(|_| f64::from_bits(r.below(0x7ff << 52))).collect();

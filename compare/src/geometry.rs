@@ -1,7 +1,8 @@
 //! Modules 2 and 9 beside gemlab's distances, triangle and tetrahedron.
 
 use crate::c::{
-    gemlab_point_circle_distance, gemlab_point_cylinder_distance, gemlab_point_line_distance, gemlab_point_point_distance,
+    gemlab_point_circle_distance, gemlab_point_cylinder_distance, gemlab_point_line_distance,
+    gemlab_point_point_distance,
 };
 use crate::near::{around, down, special, up};
 use crate::random::Random;
@@ -64,6 +65,17 @@ enum Kind {
     Line,
     Circle,
     Cylinder,
+}
+
+impl Kind {
+    fn name(self) -> &'static str {
+        match self {
+            Kind::Point => "point_point_distance",
+            Kind::Line => "point_line_distance",
+            Kind::Circle => "point_circle_distance",
+            Kind::Cylinder => "point_cylinder_distance",
+        }
+    }
 }
 
 #[derive(Clone, Debug)]
@@ -154,7 +166,7 @@ impl Call {
         self.positions().iter().any(|i| all[*i].iter().any(past)) || (radius && past(&self.radius))
     }
 
-    fn compare(&self, t: &mut Tally, met: &mut BTreeSet<u64>) {
+    fn compare(&self, t: &mut Tally) {
         let (number, distance) = self.ours();
         let rust = self.rust();
         let expected = match self.refused_for_length() {
@@ -167,14 +179,12 @@ impl Call {
         };
         match expected {
             Ok(d) => {
-                t.equal(number, 0, || format!("{self:?}"));
+                t.number(self.kind.name(), number, 0, || format!("{self:?}"));
                 t.float(distance, d, || format!("{self:?}"));
-                met.insert(0);
             }
             Err(n) => {
-                t.equal(number, n, || format!("{self:?}"));
+                t.number(self.kind.name(), number, n, || format!("{self:?}"));
                 t.float(distance, BEFORE, || format!("{self:?}, refused"));
-                met.insert(n);
             }
         }
     }
@@ -268,28 +278,26 @@ impl Source {
 
 fn distances(t: &mut Tally) {
     let mut s = Source::new(3);
-    for (kind, expected) in [
+    for (kind, due) in [
         (Kind::Point, vec![0, 1, 2, 3]),
         (Kind::Line, vec![0, 1, 2, 3, 15]),
         (Kind::Circle, vec![0, 1, 2, 3, 16]),
         (Kind::Cylinder, vec![0, 1, 2, 3, 15, 16]),
     ] {
-        let mut met = BTreeSet::new();
         for ndim in [2, 3] {
             for i in 0..INPUTS {
-                s.call(kind, [ndim; 3], i % 8 == 7).compare(t, &mut met);
+                s.call(kind, [ndim; 3], i % 8 == 7).compare(t);
             }
         }
         for i in 0..MIXED {
             let lengths = [(); 3].map(|_| s.r.below(5) as usize);
-            s.call(kind, lengths, i % 4 == 3).compare(t, &mut met);
+            s.call(kind, lengths, i % 4 == 3).compare(t);
         }
-        t.equal(met, expected.into_iter().collect(), || format!("the numbers met by {kind:?}"));
+        t.met(kind.name(), &due);
     }
 }
 
 fn ends_too_close(t: &mut Tally) {
-    let mut met = BTreeSet::new();
     for ndim in [2, 3] {
         for axis in 0..ndim {
             for (step, number) in [(2f64.powi(-26), 15), (up(2f64.powi(-26)), 0), (2f64.powi(-25), 0), (0.0, 15)] {
@@ -298,7 +306,7 @@ fn ends_too_close(t: &mut Tally) {
                 b[axis] = step;
                 let call = Call { kind: Kind::Line, a: vec![0.0; ndim], b, c: a, radius: 1.0 };
                 t.equal(call.ours().0, number, || format!("{call:?}"));
-                call.compare(t, &mut met);
+                call.compare(t);
             }
         }
     }
@@ -426,7 +434,7 @@ pub fn compare(t: &mut Tally) {
 }
 
 /// A call of each distance, in one run.
-pub fn measure(_: &mut Tally) {
+pub fn measure() {
     let mut s = Source::new(5);
     println!("bench geometry: a call, in nanoseconds");
     for (name, kind, ndim) in [

@@ -1,7 +1,7 @@
-//! Runs the library beside gemlab's Rust and tells each difference. Arguments name parts; without any, every part that
-//! compares is run. `bench-..` are parts that measure, and are run only by name.
+//! Runs the library beside gemlab's Rust and tells each difference. Arguments name parts; without any, every part is run. A
+//! part that compared nothing has failed. `bench-PART` measures, and is run only by name.
 //!
-//! A part is a file of its own and a line of `PARTS`.
+//! A part is a file of its own and a line of `PARTS`, and its measurements a line of `BENCHES`.
 
 /// The C functions, as the bindings declare them; each part uses its own.
 #[allow(dead_code)]
@@ -25,34 +25,44 @@ use tally::Tally;
 
 const PARTS: &[(&str, fn(&mut Tally))] = &[
     ("floats", floats::compare),
-    ("bench-floats", floats::measure),
     ("geometry", geometry::compare),
-    ("bench-geometry", geometry::measure),
     ("sheet", sheet::compare),
-    ("bench-sheet", sheet::measure),
     ("rows", rows::compare),
-    ("bench-rows", rows::measure),
     ("listing", listing::compare),
-    ("bench-listing", listing::measure),
     ("cells", cells::compare),
+];
+
+const BENCHES: &[(&str, fn())] = &[
+    ("bench-floats", floats::measure),
+    ("bench-geometry", geometry::measure),
+    ("bench-sheet", sheet::measure),
+    ("bench-rows", rows::measure),
+    ("bench-listing", listing::measure),
     ("bench-cells", cells::measure),
 ];
 
 fn main() -> ExitCode {
     let mut names: Vec<String> = std::env::args().skip(1).collect();
     if names.is_empty() {
-        names = PARTS.iter().map(|part| part.0.to_string()).filter(|name| !name.starts_with("bench-")).collect();
+        names = PARTS.iter().map(|part| part.0.to_string()).collect();
+    }
+    let known: Vec<_> = PARTS.iter().map(|part| part.0).chain(BENCHES.iter().map(|bench| bench.0)).collect();
+    for name in &names {
+        if !known.contains(&name.as_str()) {
+            eprintln!("compare: no part {name}; there are {}", known.join(", "));
+            return ExitCode::from(2);
+        }
     }
     let mut failed = false;
     for name in &names {
-        let Some(part) = PARTS.iter().find(|part| part.0 == name) else {
-            let known: Vec<_> = PARTS.iter().map(|part| part.0).collect();
-            eprintln!("compare: no part {name}; there are {}", known.join(", "));
-            return ExitCode::from(2);
-        };
-        let mut tally = Tally::new(name);
-        part.1(&mut tally);
-        failed |= !tally.report();
+        if let Some(bench) = BENCHES.iter().find(|bench| bench.0 == name) {
+            bench.1();
+        }
+        if let Some(part) = PARTS.iter().find(|part| part.0 == name) {
+            let mut tally = Tally::new(name);
+            part.1(&mut tally);
+            failed |= !tally.report();
+        }
     }
     ExitCode::from(failed as u8)
 }

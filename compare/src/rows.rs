@@ -123,30 +123,152 @@ impl Lent {
 }
 
 impl Lent {
-    /// Whether gemlab gives this sheet for its settings, where these are finite.
-    fn is_sheet(&self) -> bool {
+    /// The settings that the two lists of a sheet hold.
+    fn settings(&self) -> Settings {
         let (n, f) = (&self.numbers, &self.floats);
         let ndim = n[0] as usize;
-        if f[..8].iter().any(|x| !(x.abs() <= LIMIT)) {
+        Settings {
+            xmin: f[..ndim].to_vec(),
+            xmax: f[3..3 + ndim].to_vec(),
+            ndiv: (n[1] == 1).then_some(n[2] as usize),
+            tolerance: (n[3] == 1).then_some(f[6]),
+            border_tol: (n[4] == 1).then_some(f[7]),
+        }
+    }
+
+    /// Whether the two lists hold the sheet that gemlab gives for their settings, bit for bit.
+    fn is_sheet(&self) -> bool {
+        let (n, f) = (&self.numbers, &self.floats);
+        if n.len() != 8
+            || f.len() != 17
+            || !(2..=3).contains(&n[0])
+            || [n[1], n[3], n[4]].iter().any(|given| *given > 1)
+        {
             return false;
         }
-        let rust = GridSearch::new(
-            &f[..ndim],
-            &f[3..3 + ndim],
-            (n[1] == 1).then_some(n[2] as usize),
-            (n[3] == 1).then_some(f[6]),
-            (n[4] == 1).then_some(f[7]),
-        );
-        let Ok(rust) = rust else { return false };
+        let (ndim, settings) = (n[0] as usize, self.settings());
+        if !settings.within_limits() {
+            return false;
+        }
+        let Ok(rust) = settings.rust() else { return false };
         let g = rust.fields();
-        let third = |i: usize| ndim == 3 || (same(f[i], 0.0));
-        (n[3] == 1 || same(f[6], 0.0))
+        let in_2d = || n[7] == 1 && [2, 5, 10, 13].iter().all(|i| same(f[*i], 0.0));
+        (n[1] == 1 || n[2] == 0)
+            && (n[3] == 1 || same(f[6], 0.0))
             && (n[4] == 1 || same(f[7], 0.0))
-            && (0..ndim).all(|i| same(f[8 + i], g.xmin[i]) && same(f[11 + i], g.xmax[i]) && n[5 + i] == g.ndiv[i] as u64)
-            && [2, 5, 10, 13].into_iter().all(third)
+            && (0..ndim)
+                .all(|i| same(f[8 + i], g.xmin[i]) && same(f[11 + i], g.xmax[i]) && n[5 + i] == g.ndiv[i] as u64)
+            && (ndim == 3 || in_2d())
             && same(f[14], g.side_length)
             && same(f[15], g.tol_dist)
             && same(f[16], g.radius)
+    }
+
+    /// What turns a library away: 24 or 13, read from document 01.
+    pub(crate) fn fault(&self) -> Option<u64> {
+        let lengths = [self.keys.len(), self.ids.len(), self.xs.len(), self.ys.len(), self.zs.len()];
+        if lengths.iter().any(|n| *n > MOST_ROWS) {
+            return Some(24);
+        }
+        if !self.is_sheet() || lengths.iter().any(|n| *n != lengths[0]) || self.used > lengths[0] as u64 {
+            return Some(13);
+        }
+        let ndim = self.numbers[0] as usize;
+        let containers: u64 = self.numbers[5..5 + ndim].iter().product();
+        let used = self.used as usize;
+        let row = |i: usize| (self.keys[i], self.ids[i]);
+        let sound = (1..used).all(|i| row(i - 1) < row(i))
+            && (0..used).all(|i| {
+                self.keys[i] < containers
+                    && [self.xs[i], self.ys[i], self.zs[i]].iter().all(|x| x.abs() <= LIMIT)
+                    && (ndim == 3 || same(self.zs[i], 0.0))
+            });
+        (!sound).then_some(13)
+    }
+
+    /// gemlab's library of the sheet and the rows in use, where these have no fault.
+    pub(crate) fn rust(&self) -> GridSearch {
+        let mut rust = self.settings().rust().expect("a sheet without fault");
+        let ndim = self.numbers[0] as usize;
+        for i in 0..self.used as usize {
+            let at = [self.xs[i], self.ys[i], self.zs[i]];
+            rust.put_row(self.keys[i] as usize, self.ids[i] as usize, &at[..ndim]);
+        }
+        rust
+    }
+
+    /// Changes one thing at random; most of it is damage, some gives another library.
+    pub(crate) fn change(&mut self, r: &mut Random) {
+        let used = (self.used as usize).min(self.keys.len());
+        let row = if used == 0 { 0 } else { r.below(used as u64) as usize };
+        let bad = [f64::NAN, f64::INFINITY, -f64::INFINITY, LIMIT, -LIMIT, up(LIMIT), -up(LIMIT), 0.0, -0.0, 1.0];
+        match r.below(12) {
+            0 if !self.numbers.is_empty() => {
+                let i = r.below(self.numbers.len() as u64) as usize;
+                self.numbers[i] = *r.pick(&[0, 1, 2, 3, 4, 1024, 1025, u64::MAX]);
+            }
+            1 if !self.floats.is_empty() => {
+                let i = r.below(self.floats.len() as u64) as usize;
+                let v = self.floats[i];
+                self.floats[i] = if v.is_finite() && r.below(2) == 0 { *r.pick(&around(v)) } else { *r.pick(&bad) };
+            }
+            2 => self.numbers.resize(r.below(10) as usize, 1),
+            3 => self.floats.resize(r.below(19) as usize, 0.0),
+            // a list of another length: by one, or past the most rows
+            4 | 5 => {
+                let space = self.keys.len();
+                let to = match r.below(50) {
+                    0 => MOST_ROWS + 1,
+                    n if n % 2 == 0 && space > 0 => space - 1,
+                    _ => space + 1,
+                };
+                match r.below(6) {
+                    0 => self.keys.resize(to, 0),
+                    1 => self.ids.resize(to, 0),
+                    2 => self.xs.resize(to, 0.0),
+                    3 => self.ys.resize(to, 0.0),
+                    4 => self.zs.resize(to, 0.0),
+                    _ => self.resize(to),
+                }
+            }
+            6 => self.used = *r.pick(&[0, self.keys.len() as u64, self.keys.len() as u64 + 1, u64::MAX]),
+            7 if used > 1 && self.is_even() => self.swap(row, (row + 1) % used),
+            8 if used > 1 && self.is_even() => self.repeat(row.min(used - 2)),
+            9 if used > 0 && self.is_even() => self.keys[row] = *r.pick(&[0, self.keys[row] + 1, 1 << 32, u64::MAX]),
+            10 if used > 0 && self.is_even() => self.ids[row] = *r.pick(&[0, u64::MAX]),
+            11 if used > 0 && self.is_even() => {
+                let v = *r.pick(&bad);
+                *[&mut self.xs[row], &mut self.ys[row], &mut self.zs[row]][r.below(3) as usize] = v;
+            }
+            _ => {}
+        }
+    }
+
+    /// Whether the five lists have one length.
+    fn is_even(&self) -> bool {
+        [self.ids.len(), self.xs.len(), self.ys.len(), self.zs.len()].iter().all(|n| *n == self.keys.len())
+    }
+
+    fn resize(&mut self, rows: usize) {
+        self.keys.resize(rows, 0);
+        self.ids.resize(rows, 0);
+        self.xs.resize(rows, 0.0);
+        self.ys.resize(rows, 0.0);
+        self.zs.resize(rows, 0.0);
+    }
+
+    fn swap(&mut self, i: usize, j: usize) {
+        self.keys.swap(i, j);
+        self.ids.swap(i, j);
+        self.xs.swap(i, j);
+        self.ys.swap(i, j);
+        self.zs.swap(i, j);
+    }
+
+    /// Row i over the next.
+    fn repeat(&mut self, i: usize) {
+        self.keys[i + 1] = self.keys[i];
+        self.ids[i + 1] = self.ids[i];
     }
 }
 
@@ -161,9 +283,25 @@ pub(crate) struct Settings {
 }
 
 impl Settings {
-    /// A sheet and an empty library with `space` rows of any content, and gemlab's.
-    pub(crate) fn make(&self, space: usize, r: &mut Random) -> Option<World> {
-        let rust = GridSearch::new(&self.xmin, &self.xmax, self.ndiv, self.tolerance, self.border_tol).ok()?;
+    fn rust(&self) -> Result<GridSearch, &'static str> {
+        GridSearch::new(&self.xmin, &self.xmax, self.ndiv, self.tolerance, self.border_tol)
+    }
+
+    /// What document 01's limits leave of these settings; gemlab judges the rest.
+    fn within_limits(&self) -> bool {
+        let tolerance = self.tolerance.unwrap_or(1e-4);
+        self.xmin.iter().chain(&self.xmax).all(|x| x.abs() <= LIMIT)
+            && (1.0 / LIMIT..=1024.0).contains(&tolerance)
+            && self.border_tol.unwrap_or(1e-2).abs() <= 1024.0
+            && self.ndiv.unwrap_or(100) <= 1024
+    }
+
+    /// A sheet and an empty library with `space` rows of any content, and gemlab's; none where the settings give no sheet.
+    pub(crate) fn make(&self, space: usize, r: &mut Random, t: &mut Tally) -> Option<World> {
+        if !self.within_limits() {
+            return None;
+        }
+        let rust = self.rust().ok()?;
         let mut numbers = vec![0; 8];
         let mut floats = vec![0.0; 17];
         // SAFETY: as in `Lent::insert`.
@@ -185,6 +323,7 @@ impl Settings {
                 17,
             )
         };
+        t.equal(number, 0, || format!("a sheet of {self:?}"));
         if number != 0 {
             return None;
         }
@@ -247,7 +386,7 @@ impl World {
         points
     }
 
-    pub(crate) fn insert(&mut self, id: u64, x: &[f64], t: &mut Tally, met: &mut BTreeSet<u64>) {
+    pub(crate) fn insert(&mut self, id: u64, x: &[f64], t: &mut Tally) {
         self.before.copy_from(&self.lent);
         let number = self.lent.insert(id, x);
         let points = self.points(x);
@@ -263,14 +402,16 @@ impl World {
                 expected = 12;
             }
         }
-        met.insert(expected);
-        t.equal(number, expected, || format!("insert {id} at {x:?} into {:?}", self.before));
+        t.number("insert", number, expected, || format!("{id} at {x:?} into {:?}", self.before));
         if expected != 0 {
             let (lent, before) = (&self.lent, &self.before);
-            t.check(lent.same(before), || format!("insert {id} at {x:?}: refused with {number}, and {before:?} is now {lent:?}"));
+            t.check(lent.same(before), || {
+                format!("insert {id} at {x:?}: refused with {number}, and {before:?} is now {lent:?}")
+            });
             return;
         }
-        self.rust.insert(id as usize, x).unwrap();
+        let theirs = self.rust.insert(id as usize, x);
+        t.check(theirs.is_ok(), || format!("insert {id} at {x:?}: gemlab says {theirs:?}"));
         let at = [x[0], x[1], if x.len() == 2 { 0.0 } else { x[2] }];
         for key in keys {
             self.rows.insert((key, id), at);
@@ -284,7 +425,11 @@ impl World {
         let (l, b, n) = (&self.lent, &self.before, self.rows.len());
         l.used == n as u64
             && self.rows.iter().enumerate().all(|(i, ((key, id), at))| {
-                l.keys[i] == *key && l.ids[i] == *id && same(l.xs[i], at[0]) && same(l.ys[i], at[1]) && same(l.zs[i], at[2])
+                l.keys[i] == *key
+                    && l.ids[i] == *id
+                    && same(l.xs[i], at[0])
+                    && same(l.ys[i], at[1])
+                    && same(l.zs[i], at[2])
             })
             && l.keys[n..] == b.keys[n..]
             && l.ids[n..] == b.ids[n..]
@@ -295,14 +440,13 @@ impl World {
             && all_same(&l.floats, &b.floats)
     }
 
-    pub(crate) fn search(&mut self, x: &[f64], t: &mut Tally, met: &mut BTreeSet<u64>) {
+    pub(crate) fn search(&mut self, x: &[f64], t: &mut Tally) {
         let (number, found, id) = self.lent.search(x);
         if let Some(expected) = self.position_fault(x, &[x.to_vec()]) {
-            met.insert(expected);
-            t.equal((number, found, id), (expected, FOUND, ID), || format!("search at {x:?} in {:?}", self.lent));
+            t.number("search", number, expected, || format!("at {x:?} in {:?}", self.lent));
+            t.equal((found, id), (FOUND, ID), || format!("search at {x:?} in {:?}", self.lent));
             return;
         }
-        met.insert(0);
         let key = self.rust.key_of(x).unwrap() as u64;
         let near: BTreeSet<u64> = self
             .rows
@@ -310,13 +454,13 @@ impl World {
             .filter(|(_, at)| point_point_distance(&at[..x.len()], x).unwrap() <= self.fields.tol_dist)
             .map(|((_, id), _)| *id)
             .collect();
-        let expected = near.first().map_or((0, 0, ID), |lowest| (0, 1, *lowest));
-        t.equal((number, found, id), expected, || format!("search at {x:?} in {:?}", self.lent));
+        let expected = near.first().map_or((0, ID), |lowest| (1, *lowest));
+        t.number("search", number, 0, || format!("at {x:?} in {:?}", self.lent));
+        t.equal((found, id), expected, || format!("search at {x:?} in {:?}", self.lent));
         // gemlab answers any of them
-        let theirs = self.rust.search(x).unwrap().map(|id| id as u64);
-        t.check(theirs.map_or(near.is_empty(), |id| near.contains(&id)), || {
-            format!("search at {x:?}: gemlab has {theirs:?}, near are {near:?}")
-        });
+        let theirs = self.rust.search(x);
+        let among = theirs.is_ok_and(|id| id.map_or(near.is_empty(), |id| near.contains(&(id as u64))));
+        t.check(among, || format!("search at {x:?}: gemlab has {theirs:?}, near are {near:?}"));
     }
 
     /// gemlab's containers hold the same rows.
@@ -428,7 +572,16 @@ impl Source {
             _ => match mark {
                 Some(at) => {
                     let d = f.tol_dist;
-                    let off = *self.r.pick(&[0.0, 0.0, d, -d, d * 0.5, d * 0.7071067811865476, -d * 0.5773502691896258, f.tolerance]);
+                    let off = *self.r.pick(&[
+                        0.0,
+                        0.0,
+                        d,
+                        -d,
+                        d * 0.5,
+                        d * 0.7071067811865476,
+                        -d * 0.5773502691896258,
+                        f.tolerance,
+                    ]);
                     at[axis] + off
                 }
                 None => self.r.between(low, high),
@@ -461,20 +614,21 @@ impl Source {
     }
 }
 
-fn runs(t: &mut Tally, met: &mut BTreeSet<u64>) {
+fn runs(t: &mut Tally) {
     let mut s = Source::new(11);
     let mut calls = 0;
     while calls < CALLS {
+        calls += 1;
         let settings = s.settings();
         let space = s.space();
-        let Some(mut w) = settings.make(space, &mut s.r) else { continue };
+        let Some(mut w) = settings.make(space, &mut s.r, t) else { continue };
         for _ in 0..CALLS_IN_A_RUN {
             let x = s.position(&w);
             if s.r.below(2) == 0 {
                 let id = s.id();
-                w.insert(id, &x, t, met);
+                w.insert(id, &x, t);
             } else {
-                w.search(&x, t, met);
+                w.search(&x, t);
             }
         }
         w.check_rust(t);
@@ -483,7 +637,7 @@ fn runs(t: &mut Tally, met: &mut BTreeSet<u64>) {
 }
 
 /// A library of the largest size, filled, and then searched at its marks and beside them.
-fn large(t: &mut Tally, met: &mut BTreeSet<u64>) {
+fn large(t: &mut Tally) {
     for ndim in [2, 3] {
         let mut s = Source::new(12);
         let settings = Settings {
@@ -493,13 +647,13 @@ fn large(t: &mut Tally, met: &mut BTreeSet<u64>) {
             tolerance: Some(0.001),
             border_tol: None,
         };
-        let mut w = settings.make(MOST_ROWS, &mut s.r).unwrap();
+        let Some(mut w) = settings.make(MOST_ROWS, &mut s.r, t) else { continue };
         let mut id = 0;
         while w.rows.len() + 8 < MOST_ROWS {
             let x: Vec<f64> = (0..ndim).map(|_| s.r.between(-1.0, 1.0)).collect();
             if id % 1000 == 0 {
-                w.insert(id, &x, t, met);
-                w.search(&x, t, met);
+                w.insert(id, &x, t);
+                w.search(&x, t);
             } else {
                 w.fill(id, &x, t);
             }
@@ -508,8 +662,8 @@ fn large(t: &mut Tally, met: &mut BTreeSet<u64>) {
         for _ in 0..1000 {
             let x = s.position(&w);
             let id = s.r.below(id);
-            w.insert(id, &x, t, met);
-            w.search(&x, t, met);
+            w.insert(id, &x, t);
+            w.search(&x, t);
         }
         w.check_rust(t);
     }
@@ -523,28 +677,34 @@ impl World {
             let key = self.rust.key_of(&p).unwrap() as u64;
             self.rows.insert((key, id), [x[0], x[1], if x.len() == 2 { 0.0 } else { x[2] }]);
         }
-        self.rust.insert(id as usize, x).unwrap();
+        let theirs = self.rust.insert(id as usize, x);
+        t.check(theirs.is_ok(), || format!("insert {id} at {x:?}: gemlab says {theirs:?}"));
     }
 }
 
 /// Both calls on a library that is to be refused with `number`: nothing lent changes.
 fn refused(lent: &Lent, x: &[f64], number: u64, t: &mut Tally, what: impl Fn() -> String) {
     let mut after = lent.clone();
-    t.equal(after.insert(3, x), number, || format!("insert, {}: {lent:?}", what()));
+    t.number("insert", after.insert(3, x), number, || format!("{}: {lent:?}", what()));
     t.check(after.same(lent), || format!("insert, {}: {lent:?} is now {after:?}", what()));
-    t.equal(lent.search(x), (number, FOUND, ID), || format!("search, {}: {lent:?}", what()));
+    let (told, found, id) = lent.search(x);
+    t.number("search", told, number, || format!("{}: {lent:?}", what()));
+    t.equal((found, id), (FOUND, ID), || format!("search, {}: {lent:?}", what()));
 }
 
 /// Every clause of 13, and 24, on good libraries.
-fn damages(t: &mut Tally, met: &mut BTreeSet<u64>) {
+fn damages(t: &mut Tally) {
     let mut s = Source::new(13);
     let mut made = 0;
-    while made < 400 {
+    for _ in 0..4000 {
+        if made == 400 {
+            break;
+        }
         let settings = s.settings();
-        let Some(mut w) = settings.make(24, &mut s.r) else { continue };
+        let Some(mut w) = settings.make(24, &mut s.r, t) else { continue };
         for _ in 0..30 {
             let (id, x) = (s.id(), s.position(&w));
-            w.insert(id, &x, t, met);
+            w.insert(id, &x, t);
         }
         if w.rows.len() < 4 || w.rows.len() > 22 {
             continue;
@@ -659,7 +819,6 @@ fn damages(t: &mut Tally, met: &mut BTreeSet<u64>) {
                 bad(&change, 24, &|| format!("list {list} too long"));
             }
         }
-        met.extend([13, 24]);
         // limits themselves are good, and entries past the rows in use are not looked at
         let mut lent = good.clone();
         let used = n;
@@ -671,22 +830,7 @@ fn damages(t: &mut Tally, met: &mut BTreeSet<u64>) {
         lent.ys[n - 1] = -LIMIT;
         t.equal(lent.search(&x).0, 0, || format!("limits: {lent:?}"));
     }
-}
-
-impl Lent {
-    fn swap(&mut self, i: usize, j: usize) {
-        self.keys.swap(i, j);
-        self.ids.swap(i, j);
-        self.xs.swap(i, j);
-        self.ys.swap(i, j);
-        self.zs.swap(i, j);
-    }
-
-    /// Row i over the next.
-    fn repeat(&mut self, i: usize) {
-        self.keys[i + 1] = self.keys[i];
-        self.ids[i + 1] = self.ids[i];
-    }
+    t.equal(made, 400, || "libraries that were damaged".to_string());
 }
 
 /// Document 01's lines on ids 7 and 8, on sheet S.
@@ -699,7 +843,7 @@ fn examples(t: &mut Tally) {
         border_tol: Some(0.0),
     };
     let mut r = Random::new(14);
-    let mut w = settings.make(8, &mut r).unwrap();
+    let Some(mut w) = settings.make(8, &mut r, t) else { return };
     let keys = |w: &World| w.lent.keys[..w.lent.used as usize].to_vec();
     t.equal(w.lent.insert(7, &[2.0, 1.0]), 0, || "7 at (2,1)".to_string());
     t.equal(keys(&w), vec![1, 2, 9, 10], || "keys of 7 at (2,1)".to_string());
@@ -707,7 +851,7 @@ fn examples(t: &mut Tally) {
     t.equal(w.lent.insert(7, &[5.5, 2.5]), 0, || "7 at (5.5,2.5)".to_string());
     t.equal(keys(&w), vec![1, 2, 9, 10, 21], || "keys of 7 at (5.5,2.5) too".to_string());
     t.equal(w.lent.search(&[2.0, 1.0]), (0, 1, 7), || "(2,1) still".to_string());
-    let mut w = settings.make(3, &mut r).unwrap();
+    let Some(mut w) = settings.make(3, &mut r, t) else { return };
     t.equal(w.lent.insert(7, &[2.0, 1.0]), 12, || "7 at (2,1) with 3 free rows".to_string());
     t.equal(w.lent.insert(8, &[3.0 - 9.0 / 4096.0, 0.5]), 0, || "8".to_string());
     t.equal(keys(&w), vec![2], || "keys of 8".to_string());
@@ -717,13 +861,12 @@ fn examples(t: &mut Tally) {
 
 pub fn compare(t: &mut Tally) {
     examples(t);
-    let mut met = BTreeSet::new();
-    runs(t, &mut met);
-    large(t, &mut met);
-    damages(t, &mut met);
+    runs(t);
+    large(t);
+    damages(t);
     // 17 is met by no position of a good sheet
-    let all: BTreeSet<u64> = [0, 2, 3, 11, 12, 13, 24].into();
-    t.equal(met, all, || "the answers met".to_string());
+    t.met("insert", &[0, 2, 3, 11, 12, 13, 24]);
+    t.met("search", &[0, 2, 3, 11, 13, 24]);
 }
 
 /// Nanoseconds for one call of f: the best of several rounds of about 100 microseconds each.
@@ -749,17 +892,23 @@ fn time(mut f: impl FnMut(usize) -> u64) -> f64 {
 }
 
 /// Whole calls beside gemlab's at several sizes, and apart from them the look at every row.
-pub fn measure(_: &mut Tally) {
+pub fn measure() {
     for ndim in [2, 3] {
         println!("bench rows, {ndim}D, in nanoseconds (gemlab in brackets)");
         println!("  rows     search at a mark    search elsewhere   insert again        insert new          check a row   past the check");
         for n in [100, 1000, 10_000, MOST_ROWS] {
             let mut r = Random::new(15);
-            let settings = Settings { xmin: vec![-1.0; ndim], xmax: vec![1.0; ndim], ndiv: None, tolerance: None, border_tol: None };
+            let settings = Settings {
+                xmin: vec![-1.0; ndim],
+                xmax: vec![1.0; ndim],
+                ndiv: None,
+                tolerance: None,
+                border_tol: None,
+            };
             let room = 64;
-            let mut w = settings.make(n, &mut r).unwrap();
-            let mut marks: Vec<Vec<f64>> = Vec::new();
             let mut t = Tally::new("bench-rows");
+            let mut w = settings.make(n, &mut r, &mut t).unwrap();
+            let mut marks: Vec<Vec<f64>> = Vec::new();
             while w.rows.len() + room < n {
                 let x: Vec<f64> = (0..ndim).map(|_| r.between(-1.0, 1.0)).collect();
                 w.fill(marks.len() as u64, &x, &mut t);

@@ -6,7 +6,6 @@ use crate::random::Random;
 use crate::tally::Tally;
 use crate::timing::best_of;
 use gemlab::util::GridSearch;
-use std::collections::BTreeSet;
 use std::hint::black_box;
 
 extern "C" {
@@ -149,19 +148,17 @@ impl Call {
     }
 
     /// The sheet that gemlab makes, where it is not turned away.
-    fn compare(&self, t: &mut Tally, met: &mut BTreeSet<u64>) -> Option<GridSearch> {
+    fn compare(&self, t: &mut Tally) -> Option<GridSearch> {
         let (number, numbers, floats) = self.ours();
         match self.expected() {
             Err(n) => {
-                met.insert(n);
-                t.equal(number, n, || format!("{self:?}"));
+                t.number("grid_search_new", number, n, || format!("{self:?}"));
                 t.check(numbers.iter().all(|x| *x == NUMBER), || format!("{self:?}: numbers written by a refusal"));
                 t.check(floats.iter().all(|x| *x == FLOAT), || format!("{self:?}: floats written by a refusal"));
                 None
             }
             Ok(grid) => {
-                met.insert(0);
-                t.equal(number, 0, || format!("{self:?}"));
+                t.number("grid_search_new", number, 0, || format!("{self:?}"));
                 let f = grid.fields();
                 let ndim = f.ndim;
                 let third = |x: &[f64]| if ndim == 2 { 0.0 } else { x[2] };
@@ -457,26 +454,24 @@ fn examples(t: &mut Tally) {
     for (ndiv, tolerance, number) in [(8, 0.5, 10), (8, 0.4375, 0), (1, 0.001, 5), (2, 0.001, 0), (0, 0.001, 4)] {
         let call = sheet_s(ndiv, tolerance);
         t.equal(call.ours().0, number, || format!("{call:?}"));
-        call.compare(t, &mut BTreeSet::new());
+        call.compare(t);
     }
 }
 
 pub fn compare(t: &mut Tally) {
     examples(t);
     let mut s = Source::new(6);
-    let mut met = BTreeSet::new();
     let mut r = Random::new(8);
     for _ in 0..INPUTS {
-        if let Some(grid) = s.call().compare(t, &mut met) {
+        if let Some(grid) = s.call().compare(t) {
             Containers::new(&grid).compare(t, &grid, &mut r);
         }
     }
-    let all: BTreeSet<u64> = (0..=10).chain([13]).collect();
-    t.equal(met, all, || "the answers met".to_string());
+    t.met("grid_search_new", &[0, 1, 2, 3, 4, 5, 6, 7, 8, 9, 10, 13]);
 }
 
 /// A sheet made, in one run.
-pub fn measure(_: &mut Tally) {
+pub fn measure() {
     println!("bench sheet: a call, in nanoseconds");
     for ndim in [2, 3] {
         let mut r = Random::new(7);

@@ -1,19 +1,23 @@
-//! Counts what was compared, and shows the first differences.
+//! Counts what was compared and which answers were met, and shows the first differences.
 
 use crate::near::same;
 use std::fmt::Debug;
 
 const SHOWN: u64 = 10;
 
+/// Numbers that a call may return: 0 for success, and the refusals.
+const NUMBERS: usize = 26;
+
 pub struct Tally {
     name: String,
     compared: u64,
     differ: u64,
+    met: Vec<(&'static str, [u64; NUMBERS])>,
 }
 
 impl Tally {
     pub fn new(name: &str) -> Self {
-        Tally { name: name.to_string(), compared: 0, differ: 0 }
+        Tally { name: name.to_string(), compared: 0, differ: 0, met: Vec::new() }
     }
 
     /// One comparison: `what` is only asked where the two differ.
@@ -37,6 +41,30 @@ impl Tally {
         self.check(agrees, || format!("{}: {ours:?} here, {rust:?} there", of()));
     }
 
+    /// The number that a call of the library returned, beside the one that is due. It counts as met where they agree.
+    #[inline]
+    pub fn number(&mut self, call: &'static str, ours: u64, due: u64, of: impl FnOnce() -> String) {
+        if ours == due && ours < NUMBERS as u64 {
+            self.counts(call)[ours as usize] += 1;
+        }
+        self.equal(ours, due, || format!("{call}, {}", of()));
+    }
+
+    fn counts(&mut self, call: &'static str) -> &mut [u64; NUMBERS] {
+        let at = self.met.iter().position(|(name, _)| *name == call).unwrap_or_else(|| {
+            self.met.push((call, [0; NUMBERS]));
+            self.met.len() - 1
+        });
+        &mut self.met[at].1
+    }
+
+    /// At the end: the numbers that a call was met with are these and no others.
+    pub fn met(&mut self, call: &'static str, due: &[u64]) {
+        let counts = *self.counts(call);
+        let met: Vec<u64> = (0..NUMBERS as u64).filter(|n| counts[*n as usize] > 0).collect();
+        self.equal(met.as_slice(), due, || format!("the numbers met by {call}"));
+    }
+
     #[cold]
     fn differs(&mut self, what: String) {
         self.differ += 1;
@@ -45,11 +73,14 @@ impl Tally {
         }
     }
 
-    /// Says how it went; true where nothing differs.
+    /// Says how it went; true where something was compared and nothing differs.
     pub fn report(&self) -> bool {
-        if self.compared > 0 {
-            println!("compare {}: {} results compared, {} differ", self.name, self.compared, self.differ);
+        for (call, counts) in &self.met {
+            let met: Vec<String> =
+                counts.iter().enumerate().filter(|(_, k)| **k > 0).map(|(n, k)| format!("{n} ({k})")).collect();
+            println!("compare {}: {call} gave {}", self.name, met.join(", "));
         }
-        self.differ == 0
+        println!("compare {}: {} results compared, {} differ", self.name, self.compared, self.differ);
+        self.compared > 0 && self.differ == 0
     }
 }
