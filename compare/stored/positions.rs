@@ -21,15 +21,20 @@ fn s() -> GridSearch {
     sheet(8, T).unwrap()
 }
 
-/// A value to six decimals, which hold each of these exactly.
+/// A value to its last bit: cut to six decimals, for a reader, and its bits in hexadecimal. A NaN has none of its own.
 fn float(x: f64) -> String {
     if x.is_nan() {
-        "NaN".to_string()
-    } else if x.is_infinite() {
-        if x > 0.0 { "infinity" } else { "-infinity" }.to_string()
-    } else {
-        format!("{x:.6}")
+        return "NaN".to_string();
     }
+    let sign = if x.is_sign_negative() { "-" } else { "" };
+    let value = match x.abs() {
+        v if v.is_infinite() => "infinity".to_string(),
+        v => {
+            let n = (v * 1000000.0) as u64;
+            format!("{}.{:06}", n / 1000000, n % 1000000)
+        }
+    };
+    format!("{sign}{value} ({:016x})", x.to_bits())
 }
 
 fn accepted<T>(answer: Result<T, StrError>) -> String {

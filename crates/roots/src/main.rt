@@ -1,4 +1,4 @@
-// Module 1's worked examples: roots, truncations and roundings up, with their values to six decimals.
+// Module 1's worked examples: roots, truncations and roundings up.
 
 use printing::print_float;
 
