@@ -26,11 +26,11 @@ const ZETA: f64 = -123.5;
 
 /// What a search gives: the number, and the content of its three results.
 #[derive(Clone, Debug)]
-struct Told {
-    number: u64,
-    found: u64,
-    cell: u64,
-    zeta: Vec<f64>,
+pub(crate) struct Told {
+    pub(crate) number: u64,
+    pub(crate) found: u64,
+    pub(crate) cell: u64,
+    pub(crate) zeta: Vec<f64>,
 }
 
 impl Told {
@@ -57,7 +57,7 @@ impl Told {
     }
 }
 
-fn search(lent: &Lent, flat: &Flat, x: &[f64], room: usize) -> Told {
+pub(crate) fn search(lent: &Lent, flat: &Flat, x: &[f64], room: usize) -> Told {
     let mut told = Told::refused(0, room);
     // SAFETY: each pointer is a vector's or a field's, which is aligned and not null, with its length; the written ones are apart.
     told.number = unsafe {
@@ -204,7 +204,7 @@ fn reading(lent: &Lent, flat: &Flat, x: &[f64], room: usize) -> Told {
 }
 
 /// Whether an answer is one that gemlab can give: its candidates come in any order, large ones first.
-fn possible(rust: &GridCells, f: &IndexFields, ndim: usize, x: &[f64], told: &Told) -> bool {
+pub(crate) fn possible(rust: &GridCells, f: &IndexFields, ndim: usize, x: &[f64], told: &Told) -> bool {
     let holds = |cell: usize| {
         let mut zeta = [ZETA; 4];
         rust.holds(&mut zeta, x, cell).then_some((cell, zeta))
@@ -385,7 +385,7 @@ fn change(lent: &mut Lent, flat: &mut Flat, r: &mut Random) {
 
 /// The index that the build writes, with entries past its counts, and gemlab's. A build that goes otherwise than it should is
 /// told; none where document 01 refuses it, since gemlab asserts or goes astray there.
-fn built<'a>(
+pub(crate) fn built<'a>(
     flat: &Flat,
     mesh: &'a Mesh,
     s: &Settings,

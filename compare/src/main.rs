@@ -9,6 +9,7 @@
 mod c;
 mod cell_search;
 mod cells;
+mod field;
 mod floats;
 mod geometry;
 mod listing;
@@ -30,6 +31,7 @@ const PARTS: &[(&str, fn(&mut Tally))] = &[
     ("rows", rows::compare),
     ("listing", listing::compare),
     ("cells", cells::compare),
+    ("field", field::compare),
 ];
 
 const BENCHES: &[(&str, fn())] = &[

@@ -440,12 +440,13 @@ impl World {
             && all_same(&l.floats, &b.floats)
     }
 
-    pub(crate) fn search(&mut self, x: &[f64], t: &mut Tally) {
+    /// The id found, where the call is not refused.
+    pub(crate) fn search(&mut self, x: &[f64], t: &mut Tally) -> Option<u64> {
         let (number, found, id) = self.lent.search(x);
         if let Some(expected) = self.position_fault(x, &[x.to_vec()]) {
             t.number("search", number, expected, || format!("at {x:?} in {:?}", self.lent));
             t.equal((found, id), (FOUND, ID), || format!("search at {x:?} in {:?}", self.lent));
-            return;
+            return None;
         }
         let key = self.rust.key_of(x).unwrap() as u64;
         let near: BTreeSet<u64> = self
@@ -461,6 +462,7 @@ impl World {
         let theirs = self.rust.search(x);
         let among = theirs.is_ok_and(|id| id.map_or(near.is_empty(), |id| near.contains(&(id as u64))));
         t.check(among, || format!("search at {x:?}: gemlab has {theirs:?}, near are {near:?}"));
+        (number == 0 && found == 1).then_some(id)
     }
 
     /// gemlab's containers hold the same rows.
