@@ -12,7 +12,7 @@ struct area {
     size_t size;
 };
 
-static struct area make_area(size_t bytes)
+static inline struct area make_area(size_t bytes)
 {
     size_t page = (size_t)sysconf(_SC_PAGESIZE);
     struct area area;
@@ -27,8 +27,15 @@ static struct area make_area(size_t bytes)
     return area;
 }
 
+static inline void free_area(const struct area *area)
+{
+    size_t page = (size_t)sysconf(_SC_PAGESIZE);
+
+    munmap(area->start - page, area->size + 2 * page);
+}
+
 /* n entries of so many bytes each, at the area's end or at its start. */
-static void *sized_entries(const struct area *area, size_t n, size_t size, int at_end)
+static inline void *sized_entries(const struct area *area, size_t n, size_t size, int at_end)
 {
     return at_end ? area->start + area->size - n * size : area->start;
 }

@@ -203,7 +203,7 @@ static void one_mesh(size_t dim, size_t cells, int at_end)
     lend_index(ROOM, ROOM, at_end);
     blank();
     number = build(dim);
-    if (cells == 0 ? number != 18 : number != 0) {
+    if (cells == 0 ? number != GEMLAB_NO_CELLS : number != GEMLAB_DONE) {
         fail("build", dim, cells, number);
     }
     if (cells == 0) {
@@ -219,7 +219,7 @@ static void one_mesh(size_t dim, size_t cells, int at_end)
         blank();
         keep();
         number = build(dim);
-        if (number != (room < rows || large_room < large ? 12 : 0)) {
+        if (number != (room < rows || large_room < large ? GEMLAB_FULL : GEMLAB_DONE)) {
             fail("build, room", dim, cells, number);
         }
         if (number == 0 ? !kept(KEYS, rows) || !kept(CELL_LIST, rows) || !kept(LARGE, large) : !all_kept()) {
@@ -238,7 +238,7 @@ static void one_mesh(size_t dim, size_t cells, int at_end)
         blank();
         keep();
         number = build(dim);
-        if (number != (more <= CORNERS ? 19 : 13) || !all_kept()) {
+        if (number != (more <= CORNERS ? GEMLAB_BROKEN_MESH : GEMLAB_DAMAGED) || !all_kept()) {
             fail("build, one entry short", dim, cells, number);
         }
         len[more]++;
@@ -248,7 +248,7 @@ static void one_mesh(size_t dim, size_t cells, int at_end)
     blank();
     keep();
     number = build(dim);
-    if (number != 24 || !all_kept()) {
+    if (number != GEMLAB_TOO_LONG || !all_kept()) {
         fail("build, too long", dim, cells, number);
     }
 }

@@ -123,12 +123,12 @@ static uint64_t list(const struct library *l, const double *x, size_t x_len, uin
 static uint64_t expected(size_t len, uint64_t used, uint64_t rows)
 {
     if (len > MOST) {
-        return 24;
+        return GEMLAB_TOO_LONG;
     }
     if (used > len) {
-        return 13;
+        return GEMLAB_DAMAGED;
     }
-    return used + rows > len ? 12 : 0;
+    return used + rows > len ? GEMLAB_FULL : GEMLAB_DONE;
 }
 
 /* The three calls on one library: a mark at x that goes into so many containers. */
@@ -149,8 +149,8 @@ static void calls_on(size_t dim, size_t len, uint64_t used, int at_end, double a
         fail("insert", dim, len, used, number);
     }
     keep(&library);
-    if (wanted == 12) {
-        wanted = 0; /* of the library as it is */
+    if (wanted == GEMLAB_FULL) {
+        wanted = GEMLAB_DONE; /* of the library as it is */
         rows = 0;
     }
     number = search(&library, x, dim, &found, &id);
@@ -162,7 +162,7 @@ static void calls_on(size_t dim, size_t len, uint64_t used, int at_end, double a
     ids[0] = 3;
     number = list(&library, x, dim, ids, 0, &count);
     if (wanted == 0 && rows > 0) {
-        if (number != 14 || count != 9) {
+        if (number != GEMLAB_SHORT || count != 9) {
             fail("list, too short", dim, len, used, number);
         }
         if (dim == 3) {
@@ -190,7 +190,7 @@ static void unequal(size_t dim, size_t len, uint64_t used, int at_end)
     }
     for (j = 0; j < LISTS; j++) {
         struct library library = fill(len, used, at_end);
-        uint64_t number, found = 2, id = 5, count = 9, one = 3, wanted = len > MOST ? 24 : 13;
+        uint64_t number, found = 2, id = 5, count = 9, one = 3, wanted = len > MOST ? GEMLAB_TOO_LONG : GEMLAB_DAMAGED;
 
         library.len[j] = len - 1;
         if (at_end) {

@@ -7,7 +7,7 @@
 /* What a call gave: its result, or the number of its refusal. */
 static void tell(const char *what, uint64_t number, double result)
 {
-    if (number == 0) {
+    if (number == GEMLAB_DONE) {
         printf("%s: %g\n", what, result);
     } else {
         printf("%s: refused %" PRIu64 "\n", what, number);
@@ -87,7 +87,7 @@ static void put(uint64_t id, double x, double y, size_t space)
                                                 keys, space, ids, space, xs, space, ys, space, zs, space,
                                                 &used, id, at, 2);
 
-    if (number == 0) {
+    if (number == GEMLAB_DONE) {
         printf("mark %" PRIu64 " at (%g,%g): keys", id, x, y);
         for (uint64_t i = 0; i < used; i++) {
             printf(" %" PRIu64, keys[i]);
@@ -106,7 +106,7 @@ static void find(double x, double y)
     uint64_t number = gemlab_grid_search_search(sheet_numbers, GEMLAB_SHEET_NUMBERS, sheet_floats, GEMLAB_SHEET_FLOATS,
                                                 keys, 8, ids, 8, xs, 8, ys, 8, zs, 8, used, at, 2, &found, &id);
 
-    if (number != 0) {
+    if (number != GEMLAB_DONE) {
         printf("at (%g,%g): refused %" PRIu64 "\n", x, y, number);
     } else if (found) {
         printf("at (%g,%g): mark %" PRIu64 "\n", x, y, id);
@@ -146,7 +146,7 @@ static void list(const char *what, uint64_t place, const double *a, const double
                                                filter, 0, low, high, out, room, &count);
 
     printf("%s:", what);
-    if (refusal != 0) {
+    if (refusal != GEMLAB_DONE) {
         printf(" refused %" PRIu64 "\n", refusal);
         return;
     }
@@ -216,7 +216,7 @@ static void build(const char *what, size_t count, uint64_t pct_given, double pct
                                             cell_keys, space, cell_cells, space, cell_large, 4,
                                             cells_numbers, GEMLAB_CELLS_NUMBERS, cells_floats, GEMLAB_CELLS_FLOATS);
 
-    if (number != 0) {
+    if (number != GEMLAB_DONE) {
         printf("%s: refused %" PRIu64 "\n", what, number);
         return;
     }
@@ -241,7 +241,7 @@ static void locate(double x, double y)
                                                mesh_coords, 12, mesh_corners, 9, cell_keys, 12, cell_cells, 12, cell_large, 4,
                                                at, 2, zeta, 4, &found, &cell);
 
-    if (number != 0) {
+    if (number != GEMLAB_DONE) {
         printf("cell at (%g,%g): refused %" PRIu64 "\n", x, y, number);
     } else if (found) {
         printf("cell at (%g,%g): %" PRIu64 ", coordinates %g %g %g, fourth entry %g\n", x, y, cell, zeta[0], zeta[1], zeta[2], zeta[3]);

@@ -2,7 +2,7 @@
  * placed in the mesh of a basin. It uses every function of gemlab.h and prints what it finds. The numbers that it has to
  * print, survey.expected, are gemlab's: compare/stored/survey.rs does the same job with gemlab's Rust.
  *
- *     cc -I include examples/survey.c target/staticlib/libcapi.a -o survey && ./survey
+ *     gcc -Iinclude examples/survey.c target/staticlib/libcapi.a -o survey && ./survey
  */
 #include <inttypes.h>
 #include <stdio.h>
@@ -17,13 +17,13 @@ static double xs[SPACE], ys[SPACE], zs[SPACE];
 static uint64_t used = 0;
 
 /* The sheet, as gemlab_grid_search_new writes it. */
-static uint64_t sheet_numbers[8];
-static double sheet_floats[17];
+static uint64_t sheet_numbers[GEMLAB_SHEET_NUMBERS];
+static double sheet_floats[GEMLAB_SHEET_FLOATS];
 
 static int failures = 0;
 
 static void expect_accepted(const char *what, uint64_t code) {
-    if (code != 0) {
+    if (code != GEMLAB_DONE) {
         printf("%s: refused %" PRIu64 "\n", what, code);
         failures++;
     }
@@ -40,7 +40,7 @@ static void search(double x, double y) {
     uint64_t found = 0, id = 0;
     uint64_t code = gemlab_grid_search_search(sheet_numbers, 8, sheet_floats, 17, keys, SPACE, ids, SPACE, xs, SPACE, ys, SPACE,
                                               zs, SPACE, used, at, 2, &found, &id);
-    if (code != 0)
+    if (code != GEMLAB_DONE)
         printf("(%g, %g): refused %" PRIu64 "\n", x, y, code);
     else if (found)
         printf("(%g, %g): post %" PRIu64 "\n", x, y, id);
@@ -55,9 +55,9 @@ static void list_on(const char *name, uint64_t place, const double *a, size_t a_
                                             SPACE, used, place, a, a_len, b, b_len, number, filter, axis, low, high, list, SPACE,
                                             &count);
     printf("%s:", name);
-    if (code != 0)
+    if (code != GEMLAB_DONE)
         printf(" refused %" PRIu64, code);
-    for (uint64_t i = 0; code == 0 && i < count; i++)
+    for (uint64_t i = 0; code == GEMLAB_DONE && i < count; i++)
         printf(" %" PRIu64, list[i]);
     printf("\n");
 }
@@ -93,7 +93,7 @@ static void basin(void) {
         uint64_t code = gemlab_grid_cells_search(numbers, 6, floats, 7, coords, 8, corners, 6, row_keys, 16, row_cells, 16, large, 2,
                                                  probes[i], 2, zeta, 4, &found, &cell);
         printf("probe (%g, %g): ", probes[i][0], probes[i][1]);
-        if (code != 0)
+        if (code != GEMLAB_DONE)
             printf("refused %" PRIu64 "\n", code);
         else if (found)
             printf("cell %" PRIu64 ", coordinates %g %g %g\n", cell, zeta[0], zeta[1], zeta[2]);
@@ -122,10 +122,10 @@ int main(void) {
 
     const double a[2] = {6, 0}, b[2] = {6, 4}, center[2] = {6, 2};
     const double none[1] = {0}; /* a list of length 0: any pointer that is aligned and not NULL */
-    list_on("on the line", 0, a, 2, b, 2, 0, 0, 0, 0, 0);
-    list_on("on the line, from 2 to 3", 0, a, 2, b, 2, 0, 1, 1, 2, 3);
-    list_on("on the circle", 1, center, 2, none, 0, 1, 0, 0, 0, 0);
-    list_on("on a plane in 2D", 3, none, 0, none, 0, 1, 0, 0, 0, 0);
+    list_on("on the line", GEMLAB_LINE, a, 2, b, 2, 0, GEMLAB_EVERYTHING, 0, 0, 0);
+    list_on("on the line, from 2 to 3", GEMLAB_LINE, a, 2, b, 2, 0, GEMLAB_RANGE, 1, 2, 3);
+    list_on("on the circle", GEMLAB_CIRCLE, center, 2, none, 0, 1, GEMLAB_EVERYTHING, 0, 0, 0);
+    list_on("on a plane in 2D", GEMLAB_PLANE_XY, none, 0, none, 0, 1, GEMLAB_EVERYTHING, 0, 0, 0);
 
     distances();
     basin();

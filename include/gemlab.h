@@ -1,8 +1,13 @@
 /*
  * gemlab: points and cells found by position.
  *
- * The library is target/staticlib/libcapi.a, for x86-64 Linux. It keeps nothing between calls and
- * takes no memory but its stack: whatever it works on is lent by the caller.
+ * The library is target/staticlib/libcapi.a, for x86-64 Linux; `rt staticlib capi` writes it. It
+ * needs no other library:
+ *
+ *     gcc -Iinclude program.c target/staticlib/libcapi.a -o program
+ *
+ * It keeps nothing between calls and takes no memory but its stack: whatever it works on is lent by
+ * the caller.
  *
  *
  * What a call gives back
@@ -12,47 +17,57 @@
  * that stands with the function. A refusal writes nothing: every list, count and result that was
  * lent keeps its content.
  *
- *    1  the dimension is not 2 or 3
- *    2  another position's length differs from the dimension
- *    3  a float is not finite, a coordinate or a radius is past 1,048,576 in magnitude, a tolerance
- *       or a border is above 1,024, or a positive tolerance is below 1/1,048,576
- *    4  divisions 0
- *    5  divisions 1
- *    6  divisions, or an axis of a cell index, above 1,024
- *    7  xmax is not above xmin on some axis
- *    8  the tolerance is 0 or negative
- *    9  the border is negative
- *   10  the side of a container is at most twice the tolerance
- *   11  the position is outside the sheet or the index
- *   12  the call needs more new rows, or large-cell entries, than are free
- *   13  what was handed in is damaged: a sheet that is not the one its settings give, rows out of
- *       order, lists of unequal length, a count above its list, and the like
- *   14  the lent list is shorter than the listing
- *   15  the ends of a line, or of a cylinder's axis, are too close: the square of their distance is
- *       at most 2^-52
- *   16  a circle in 3D, a cylinder or a plane in 2D, a filter on an axis that is not there
- *   17  a ratio exceeds its divisions
- *   18  no cells
- *   19  a corner names no point, or the flat lists hold no whole number of points or cells
- *   20  the cutoff is outside 0 to 1
- *   21  the percentage is outside 0 to 1
- *   22  no extent, or 0 divisions, on some axis
- *   23  every cell is large, and the percentage keeps them so
- *   24  a lent list holds more than 65,536 points, cells or rows
- *   25  the coordinate list is not of length 4
- *
  *
  * How lists are passed
  *
  * A list is a pointer and its length, a number of entries. The pointer is aligned and never NULL,
- * and that many entries can be read there, or written where it is not const. A list that is written
- * overlaps no other argument. Nothing else is asked of a caller: every value of every argument has
+ * and that many entries can be read there, or written where it is not const. A result, such as
+ * *found, is one entry. Whatever is written, a list or a result, overlaps no other argument: two
+ * results are two variables. Nothing else is asked of a caller: every value of every argument has
  * an answer.
  *
  * An empty list has length 0 and any aligned pointer that is not NULL, which is not read:
  *
  *     double none[1];
- *     gemlab_point_point_distance(none, 0, none, 0, &distance);   (returns 1)
+ *     gemlab_point_point_distance(none, 0, none, 0, &distance);   (returns GEMLAB_DIMENSION)
+ *
+ *
+ * How long lists have to be
+ *
+ * A mark takes at most GEMLAB_MARK_ROWS(ndim) rows, 5 in 2D and 9 in 3D: one mostly, 4 or 8 where
+ * containers meet, and one more only where the side of a container is within rounding of twice the
+ * tolerance. Inserted again elsewhere, it takes as many again. A cell takes at most
+ * GEMLAB_CELL_ROWS(ndim) rows, 4 in 2D and 8 in 3D. Large cells are at most the part
+ * large_pct of the cells. A listing has at most as many ids as rows are in use. Lists of these
+ * lengths are never refused for want of room (12, 14); a list of rows has at most 65,536 (24).
+ *
+ *
+ * Threads and stack
+ *
+ * Calls may run in several threads at once, as long as none of them writes what another reads or
+ * writes: many searches of one library, or insertions into different ones. A call
+ * takes at most GEMLAB_STACK bytes of its thread's stack; a listing on which more than 1,024 rows
+ * count takes at most GEMLAB_STACK_LISTING.
+ *
+ *
+ * What the answers mean in the field
+ *
+ * Answers are gemlab's, to the last bit, and gemlab rounds. README.md has the figures.
+ *
+ * Tetrahedra have holes at their rims: a position on a node, an edge or a face can be computed to
+ * be outside every cell around it, by some 1e-14 of a cell, and is then answered by found = 0:
+ * about one in seven of the nodes within a mesh, one in eight of the middles of edges, one in a
+ * thousand of the middles of faces. Triangles have none at nodes and middles of edges.
+ *
+ * Tetrahedra lose accuracy far from the origin, since coordinates are multiplied as they are.
+ * At (500000, 900000, 400), coordinates in a cell of 10 m are off by up to 1e-4; in one of 1 m by
+ * up to 0.1, and of positions well inside such a cell 2 in 100 are placed in another cell or in
+ * none. Triangles lose next to nothing. So take coordinates from a local origin beside the mesh,
+ * which also keeps them within the limit of 1,048,576 (3).
+ *
+ * A mark is found for sure at a position that is nearer than the tolerance on each axis. Further
+ * off and up to tol_dist, it is missed where the edge of a container lies between; at the tolerance
+ * itself, on every axis, rounding decides.
  */
 #ifndef GEMLAB_H
 #define GEMLAB_H
@@ -63,6 +78,57 @@
 #ifdef __cplusplus
 extern "C" {
 #endif
+
+/*
+ * What a call returns: 0, or the number of a refusal.
+ */
+#define GEMLAB_DONE 0
+#define GEMLAB_DIMENSION 1      /* the dimension is not 2 or 3 */
+#define GEMLAB_LENGTH 2         /* another position's length differs from the dimension */
+#define GEMLAB_LIMIT 3          /* a float is not finite, a coordinate or a radius is past
+                                   1,048,576 in magnitude, a tolerance or a border is above
+                                   1,024, or a positive tolerance is below 1/1,048,576 */
+#define GEMLAB_NO_DIVISIONS 4   /* divisions 0 */
+#define GEMLAB_ONE_DIVISION 5   /* divisions 1 */
+#define GEMLAB_MANY_DIVISIONS 6 /* divisions, or an axis of a cell index, above 1,024 */
+#define GEMLAB_CORNERS 7        /* xmax is not above xmin on some axis */
+#define GEMLAB_TOLERANCE 8      /* the tolerance is 0 or negative */
+#define GEMLAB_BORDER 9         /* the border is negative */
+#define GEMLAB_SIDE 10          /* the side of a container is at most twice the tolerance */
+#define GEMLAB_OUTSIDE 11       /* the position is outside the sheet or the index */
+#define GEMLAB_FULL 12          /* the call needs more new rows, or large-cell entries, than are
+                                   free */
+#define GEMLAB_DAMAGED 13       /* what was handed in is damaged: a sheet that is not the one its
+                                   settings give, rows out of order, lists of unequal length, a
+                                   count above its list, and the like */
+#define GEMLAB_SHORT 14         /* the lent list is shorter than the listing */
+#define GEMLAB_CLOSE 15         /* the ends of a line, or of a cylinder's axis, are too close:
+                                   the square of their distance is at most 2^-52 */
+#define GEMLAB_UNFIT 16         /* a circle in 3D, a cylinder or a plane in 2D, a filter on an
+                                   axis that is not there */
+#define GEMLAB_RATIO 17         /* a ratio exceeds its divisions */
+#define GEMLAB_NO_CELLS 18      /* no cells */
+#define GEMLAB_BROKEN_MESH 19   /* a corner names no point, or the flat lists hold no whole
+                                   number of points or cells */
+#define GEMLAB_CUTOFF 20        /* the cutoff is outside 0 to 1 */
+#define GEMLAB_PERCENTAGE 21    /* the percentage is outside 0 to 1 */
+#define GEMLAB_NO_EXTENT 22     /* no extent, or 0 divisions, on some axis */
+#define GEMLAB_ALL_LARGE 23     /* every cell is large, and the percentage keeps them so */
+#define GEMLAB_TOO_LONG 24      /* a lent list holds more than 65,536 points, cells or rows */
+#define GEMLAB_COORDINATES 25   /* the coordinate list is not of length 4 */
+
+/*
+ * The most stack that a call takes below its caller's frame, in bytes: 8 KiB, and 144 KiB for a
+ * listing on which more than 1,024 rows count.
+ */
+#define GEMLAB_STACK 8192
+#define GEMLAB_STACK_LISTING 147456
+
+/*
+ * The most rows that a mark, and that a cell, takes.
+ */
+#define GEMLAB_MARK_ROWS(ndim) ((ndim) == 2 ? 5 : 9)
+#define GEMLAB_CELL_ROWS(ndim) ((ndim) == 2 ? 4 : 8)
 
 /*
  * Distances.
@@ -114,8 +180,8 @@ uint64_t gemlab_point_cylinder_distance(const double *a, size_t a_len,
 /*
  * The sheet.
  *
- * A sheet divides a box into containers of one side. It stands in two lists of the caller's, made by
- * gemlab_grid_search_new and handed to the calls on it: 8 numbers and 17 floats.
+ * A sheet divides a box into containers of one side. It stands in two lists of the caller's, made
+ * by gemlab_grid_search_new and handed to the calls on it: 8 numbers and 17 floats.
  *
  *     numbers  0      dimension
  *              1, 2   divisions given (0 or 1), and their number (0 where left out)
@@ -142,11 +208,11 @@ uint64_t gemlab_point_cylinder_distance(const double *a, size_t a_len,
 #define GEMLAB_SHEET_FLOATS 17
 
 /*
- * The sheet with corners xmin and xmax, with ndiv divisions along the first longest axis and as many
- * along another as its length allows, 1 at least; into the two lists. The border widens the box on
- * every side after the divisions are chosen. A border of -0 is one of 0.
- * Refusals: 13 (a list is not of its length), 1 (length of xmin), 2 (length of xmax), 3, 4, 5, 6, 7,
- * 8, 9, 10.
+ * The sheet with corners xmin and xmax, with ndiv divisions along the first longest axis and as
+ * many along another as its length allows, 1 at least; into the two lists. The border widens the
+ * box on every side after the divisions are chosen. A border of -0 is one of 0.
+ * Refusals: 13 (a list is not of its length), 1 (length of xmin), 2 (length of xmax), 3, 4, 5, 6,
+ * 7, 8, 9, 10.
  */
 uint64_t gemlab_grid_search_new(const double *xmin, size_t xmin_len,
                                 const double *xmax, size_t xmax_len,
@@ -159,30 +225,30 @@ uint64_t gemlab_grid_search_new(const double *xmin, size_t xmin_len,
 /*
  * A library of marks.
  *
- * A mark is a number, any uint64_t, at a position. A library keeps marks on one sheet as rows: one row
- * for each mark and container, in five lists of one length, the library's space, and the count of the
- * rows in use, which stand in front:
+ * A mark is a number, any uint64_t, at a position. A library keeps marks on one sheet as rows: one
+ * row for each mark and container, in five lists of one length, the library's space, and the count
+ * of the rows in use, which stand in front:
  *
  *     keys     the container's key: i + j * nx, and + k * nx * ny in 3D
  *     ids      the mark's number
  *     xs ys zs its coordinates (zs: +0 in 2D)
  *
- * Rows are in strict order of key, then id. An empty library has the count 0; its entries, and those
- * past the count in any library, may have any content and are never read or changed but where a new
- * row takes their place. A space is at most 65,536.
+ * Rows are in strict order of key, then id. An empty library has the count 0; its entries, and
+ * those past the count in any library, may have any content and are never read or changed but where
+ * a new row takes their place. A space is at most 65,536.
  *
  * Every call looks at the whole library first, and says 13 where the sheet is damaged, the lists
- * differ in length, the count is above that, rows are out of order, a key is not below the number of
- * containers, or a coordinate is not finite, past its limit, or in 2D a third one is not +0.
+ * differ in length, the count is above that, rows are out of order, a key is not below the number
+ * of containers, or a coordinate is not finite, past its limit, or in 2D a third one is not +0.
  */
 
 /*
- * Puts the mark id at x into the library: a row in the container of x, and one in each container that
- * a corner of the halo falls into, the points x plus or minus the tolerance on each axis that are
- * within the sheet. A row that the mark has there takes the new coordinates; its rows elsewhere stay.
- * *used becomes the new count.
- * Refusals: 24 (a list is longer than 65,536), 13, 2, 3, 11, 17 (of x or of a halo corner within the
- * sheet), 12 (more new rows than are free; a call that needs none is not refused).
+ * Puts the mark id at x into the library: a row in the container of x, and one in each container
+ * that a corner of the halo falls into, the points x plus or minus the tolerance on each axis that
+ * are within the sheet. A row that the mark has there takes the new coordinates; its rows elsewhere
+ * stay. *used becomes the new count.
+ * Refusals: 24 (a list is longer than 65,536), 13, 2, 3, 11, 17 (of x or of a halo corner within
+ * the sheet), 12 (more new rows than are free; a call that needs none is not refused).
  */
 uint64_t gemlab_grid_search_insert(const uint64_t *numbers, size_t numbers_len,
                                    const double *floats, size_t floats_len,
@@ -213,8 +279,8 @@ uint64_t gemlab_grid_search_search(const uint64_t *numbers, size_t numbers_len,
                                    uint64_t *id);
 
 /*
- * The marks on a place: the ids of the rows that count, ascending and once each, at the front of list,
- * and *count becomes how many they are. The list beyond them is untouched.
+ * The marks on a place: the ids of the rows that count, ascending and once each, at the front of
+ * list, and *count becomes how many they are. The list beyond them is untouched.
  *
  * place says what the place is, and number is its radius or coordinate:
  *
@@ -225,19 +291,19 @@ uint64_t gemlab_grid_search_search(const uint64_t *numbers, size_t numbers_len,
  *     GEMLAB_PLANE_YZ  4  the plane x = number, in 3D
  *     GEMLAB_PLANE_XZ  5  the plane y = number, in 3D
  *
- * A position that the place does not have, and a line's number, are not read; an empty list will do. A
- * radius may be negative.
+ * A position that the place does not have, and a line's number, are not read; an empty list will
+ * do. A radius may be negative.
  *
  * filter says which of the marks are kept: GEMLAB_EVERYTHING (0), where axis, low and high are not
- * read, or GEMLAB_RANGE (1): those whose coordinate on the axis (0, 1 or 2) is at least low and at most
- * high. A range with low above high keeps none.
+ * read, or GEMLAB_RANGE (1): those whose coordinate on the axis (0, 1 or 2) is at least low and at
+ * most high. A range with low above high keeps none.
  *
  * A row counts where the centre of its container is within radius + tol_dist of the place (for a
- * circle or a cylinder by the signed distance, so that every container inside does), its own point is
- * within tol_dist, and the filter keeps that point.
- * Refusals: 24, 13, 16 (a place or a filter that is not there, or not in this dimension), 2, 3 (of the
- * positions, the radius or coordinate, and the ends of a range), 15 (where a row is in use), 14 (the
- * ids are more than list_len).
+ * circle or a cylinder by the signed distance, so that every container inside does), its own point
+ * is within tol_dist, and the filter keeps that point.
+ * Refusals: 24, 13, 16 (a place or a filter that is not there, or not in this dimension), 2, 3 (of
+ * the positions, the radius or coordinate, and the ends of a range), 15 (where a row is in use), 14
+ * (the ids are more than list_len).
  */
 #define GEMLAB_LINE 0
 #define GEMLAB_CIRCLE 1
@@ -268,8 +334,9 @@ uint64_t gemlab_grid_search_list(const uint64_t *numbers, size_t numbers_len,
 /*
  * A cell index.
  *
- * A mesh is a list of coordinates, coords, 2 or 3 for each point, and a list of point numbers, corners,
- * 3 for each triangle in 2D and 4 for each tetrahedron in 3D. It has at most 65,536 points and cells.
+ * A mesh is a list of coordinates, coords, 2 or 3 for each point, and a list of point numbers,
+ * corners, 3 for each triangle in 2D and 4 for each tetrahedron in 3D. It has at most 65,536 points
+ * and cells.
  *
  * An index divides a box around the mesh into containers of one side. It stands in two lists of the
  * caller's, 6 numbers and 7 floats:
@@ -282,25 +349,26 @@ uint64_t gemlab_grid_search_list(const uint64_t *numbers, size_t numbers_len,
  *              1..3   xmin x, y, z
  *              4..6   xmax x, y, z: xmin plus side times divisions (z: +0 in 2D)
  *
- * and its rows, one for each container and cell in strict order of key, then cell, in two lists of one
- * length, keys and cells; and its large cells, ascending, in the list large. Entries past the counts
- * may have any content. Each list has at most 65,536 entries.
+ * and its rows, one for each container and cell in strict order of key, then cell, in two lists of
+ * one length, keys and cells; and its large cells, ascending, in the list large. Entries past the
+ * counts may have any content. Each list has at most 65,536 entries.
  */
 #define GEMLAB_CELLS_NUMBERS 6
 #define GEMLAB_CELLS_FLOATS 7
 
 /*
- * The index of a mesh, into the five lists. A cell is large if the largest length of its bounding box
- * is at least large_cutoff times the largest of all. If at most the part large_pct of the cells is
- * large, these go to the list large; else none counts as large. Each other cell gets a row in every
- * container that a corner of its bounding box falls into. The side of a container is the largest length
- * of these cells plus twice the tolerance, and the border widens the box around the mesh. Entries past
- * the new counts stay.
+ * The index of a mesh, into the five lists. A cell is large if the largest length of its bounding
+ * box is at least large_cutoff times the largest of all. If at most the part large_pct of the cells
+ * is large, these go to the list large; else none counts as large. Each other cell gets a row in
+ * every container that a corner of its bounding box falls into. The side of a container is the
+ * largest length of these cells plus twice the tolerance, and the border widens the box around the
+ * mesh. Entries past the new counts stay.
  *
  * Settings left out are tolerance 1e-4, border 1e-2, cutoff 0.75 and percentage 0.2 (a part of 1).
- * Refusals: 1, 24 (more than 65,536 points, cells, rows or large cells in a lent list), 13 (keys and
- * cells differ in length, or an index list is not of its length), 19, 3 (of every coordinate, used or
- * not, and of the settings), 8, 9, 20, 21, 18, 23, 22, 6, 17, 12 (of the rows or the large cells).
+ * Refusals: 1, 24 (more than 65,536 points, cells, rows or large cells in a lent list), 13 (keys
+ * and cells differ in length, or an index list is not of its length), 19, 3 (of every coordinate,
+ * used or not, and of the settings), 8, 9, 20, 21, 18, 23, 22, 6, 17, 12 (of the rows or the large
+ * cells).
  */
 uint64_t gemlab_grid_cells_new(uint64_t ndim,
                                const double *coords, size_t coords_len,
@@ -316,19 +384,19 @@ uint64_t gemlab_grid_cells_new(uint64_t ndim,
                                double *floats, size_t floats_len);
 
 /*
- * The cell at a position, of an index, its lists and its mesh: the first large cell that contains the
- * position, and else the first cell of the position's container that does, both ascending. A cell
- * contains a position that is not outside its bounding box and of whose coordinates in the cell none is
- * below 0, so that a NaN, which a cell of no area can give, counts as inside.
+ * The cell at a position, of an index, its lists and its mesh: the first large cell that contains
+ * the position, and else the first cell of the position's container that does, both ascending. A
+ * cell contains a position that is not outside its bounding box and of whose coordinates in the
+ * cell none is below 0, so that a NaN, which a cell of no area can give, counts as inside.
  *
  * found becomes 1, cell its number, and the first 3 (2D) or 4 (3D) entries of zeta the position's
- * coordinates in it; in 2D the fourth entry stays. Where no cell contains the position, found becomes 0
- * and cell and zeta stay.
+ * coordinates in it; in 2D the fourth entry stays. Where no cell contains the position, found
+ * becomes 0 and cell and zeta stay.
  *
- * Refusals: 1 (of numbers[0]; also for an empty list of numbers), 24 (more than 65,536 points, cells,
- * rows or large cells in a lent list), 19, 13 (an index list not of its length, a damaged index, rows or
- * large cells; in 2D the third entries of the index are not judged), 25 (zeta not of length 4), 2, 3 (of
- * the position, and of every coordinate of the mesh, used or not), 11, 17.
+ * Refusals: 1 (of numbers[0]; also for an empty list of numbers), 24 (more than 65,536 points,
+ * cells, rows or large cells in a lent list), 19, 13 (an index list not of its length, a damaged
+ * index, rows or large cells; in 2D the third entries of the index are not judged), 25 (zeta not of
+ * length 4), 2, 3 (of the position, and of every coordinate of the mesh, used or not), 11, 17.
  */
 uint64_t gemlab_grid_cells_search(const uint64_t *numbers, size_t numbers_len,
                                   const double *floats, size_t floats_len,

@@ -1,0 +1,287 @@
+/* Each call of include/gemlab.h on threads that have the stack stated there left and no more, several of them at once: pages
+   that may not be touched stand on both sides of a thread's stack. Every thread has to get what the first one got. With the
+   argument `measure` it also tells how many bytes of stack each call took. */
+#define _DEFAULT_SOURCE
+#include "areas.h"
+#include "gemlab.h"
+
+#include <inttypes.h>
+#include <pthread.h>
+#include <stdint.h>
+#include <string.h>
+
+#define THREADS 4
+#define MOST 65536
+#define SQUARES 90
+#define CELLS (2 * SQUARES * SQUARES)
+#define POINTS ((SQUARES + 1) * (SQUARES + 1))
+
+/* What the threads read together: sheets in 2D and 3D, a full library on each, and a mesh with its index. */
+static uint64_t numbers[2][GEMLAB_SHEET_NUMBERS];
+static double floats[2][GEMLAB_SHEET_FLOATS];
+static uint64_t keys[MOST], ids[MOST];
+static double xs[MOST], ys[MOST], zs[MOST];
+static double coords[2 * POINTS];
+static uint32_t corners[3 * CELLS];
+static uint64_t index_keys[MOST], index_cells[MOST], index_large[CELLS];
+static uint64_t index_numbers[GEMLAB_CELLS_NUMBERS];
+static double index_floats[GEMLAB_CELLS_FLOATS];
+
+/* What each thread has for itself: lists to write, and results. */
+struct own {
+    uint64_t keys[MOST], ids[MOST], list[MOST];
+    double xs[MOST], ys[MOST], zs[MOST];
+    uint64_t numbers[GEMLAB_SHEET_NUMBERS];
+    double floats[GEMLAB_SHEET_FLOATS];
+    uint64_t used, found, id, count, returned;
+    double distance, zeta[4];
+};
+static struct own *owns[THREADS];
+
+static const double low[3] = {0, 0, 0}, high[3] = {8, 8, 8}, far_off[3] = {1000, 0, 0}, axis[3] = {0, 0, 1};
+
+static void distances(struct own *o)
+{
+    o->returned = gemlab_point_point_distance(low, 3, high, 3, &o->distance);
+    o->returned += gemlab_point_line_distance(low, 3, high, 3, far_off, 3, &o->distance);
+    o->returned += gemlab_point_circle_distance(low, 2, 1, high, 2, &o->distance);
+    o->returned += gemlab_point_cylinder_distance(low, 3, axis, 3, 1, high, 3, &o->distance);
+}
+
+static void sheet(struct own *o)
+{
+    o->returned = gemlab_grid_search_new(low, 3, high, 3, 1, 40, 0, 0, 0, 0, o->numbers, GEMLAB_SHEET_NUMBERS,
+                                         o->floats, GEMLAB_SHEET_FLOATS);
+}
+
+/* A mark where containers meet, into a library that has room for it just once. */
+static void insert_on(struct own *o, size_t dim)
+{
+    static const double at[3] = {4, 4, 4};
+
+    o->used = (uint64_t)(MOST - GEMLAB_CELL_ROWS(dim));
+    memcpy(o->keys, keys, sizeof keys);
+    memcpy(o->ids, ids, sizeof ids);
+    memcpy(o->xs, xs, sizeof xs);
+    memcpy(o->ys, ys, sizeof ys);
+    memcpy(o->zs, zs, sizeof zs);
+    o->returned = gemlab_grid_search_insert(numbers[dim - 2], GEMLAB_SHEET_NUMBERS, floats[dim - 2], GEMLAB_SHEET_FLOATS,
+                                            o->keys, MOST, o->ids, MOST, o->xs, MOST, o->ys, MOST, o->zs, MOST, &o->used,
+                                            UINT64_MAX, at, dim);
+}
+
+static void insert_2d(struct own *o)
+{
+    insert_on(o, 2);
+}
+
+static void insert_3d(struct own *o)
+{
+    insert_on(o, 3);
+}
+
+static void search_3d(struct own *o)
+{
+    static const double at[3] = {4.1, 4.1, 4.1};
+
+    o->returned = gemlab_grid_search_search(numbers[1], GEMLAB_SHEET_NUMBERS, floats[1], GEMLAB_SHEET_FLOATS, keys, MOST,
+                                            ids, MOST, xs, MOST, ys, MOST, zs, MOST, MOST, at, 3, &o->found, &o->id);
+}
+
+/* The marks on a place of which `rows` rows are in use. */
+static void list_on(struct own *o, size_t dim, uint64_t place, const double *a, const double *b, double number, uint64_t rows)
+{
+    o->returned = gemlab_grid_search_list(numbers[dim - 2], GEMLAB_SHEET_NUMBERS, floats[dim - 2], GEMLAB_SHEET_FLOATS, keys,
+                                          MOST, ids, MOST, xs, MOST, ys, MOST, zs, MOST, rows, place, a, dim, b, dim, number,
+                                          GEMLAB_EVERYTHING, 0, 0, 0, o->list, MOST, &o->count);
+}
+
+/* Every row lies at (1000, 0, 0). */
+static void list_few(struct own *o)
+{
+    list_on(o, 2, GEMLAB_CIRCLE, low, low, 1000, 1024);
+}
+
+static void list_few_3d(struct own *o)
+{
+    list_on(o, 3, GEMLAB_CYLINDER, low, axis, 1000, 1024);
+}
+
+/* None of the rows counts: their containers are apart from the line. */
+static void list_none(struct own *o)
+{
+    static const double side[3] = {0, 9, 0}, end[3] = {8, 9, 0};
+
+    list_on(o, 3, GEMLAB_LINE, side, end, 0, MOST);
+}
+
+static void list_many(struct own *o)
+{
+    list_on(o, 2, GEMLAB_CIRCLE, low, low, 1000, MOST);
+}
+
+static void list_many_3d(struct own *o)
+{
+    list_on(o, 3, GEMLAB_CYLINDER, low, axis, 1000, MOST);
+}
+
+static void build(struct own *o)
+{
+    o->returned = gemlab_grid_cells_new(2, coords, 2 * POINTS, corners, 3 * CELLS, 0, 0, 0, 0, 0, 0, 0, 0, o->keys, MOST, o->ids,
+                                        MOST, o->list, MOST, o->numbers, GEMLAB_CELLS_NUMBERS, o->floats, GEMLAB_CELLS_FLOATS);
+}
+
+static void locate(struct own *o)
+{
+    static const double at[2] = {3.3, 4.4};
+
+    o->returned = gemlab_grid_cells_search(index_numbers, GEMLAB_CELLS_NUMBERS, index_floats, GEMLAB_CELLS_FLOATS, coords,
+                                           2 * POINTS, corners, 3 * CELLS, index_keys, MOST, index_cells, MOST, index_large,
+                                           CELLS, at, 2, o->zeta, 4, &o->found, &o->id);
+}
+
+static const struct call {
+    const char *name;
+    void (*make)(struct own *);
+    size_t stack;
+} calls[] = {
+    {"the four distances", distances, GEMLAB_STACK},
+    {"a sheet", sheet, GEMLAB_STACK},
+    {"an insertion in 2D", insert_2d, GEMLAB_STACK},
+    {"an insertion in 3D", insert_3d, GEMLAB_STACK},
+    {"a search", search_3d, GEMLAB_STACK},
+    {"a listing of 65,536 rows of which none counts", list_none, GEMLAB_STACK_LISTING},
+    {"a listing of 1,024 rows in 2D", list_few, GEMLAB_STACK_LISTING},
+    {"a listing of 1,024 rows in 3D", list_few_3d, GEMLAB_STACK_LISTING},
+    {"a listing of 65,536 rows in 2D", list_many, GEMLAB_STACK_LISTING},
+    {"a listing of 65,536 rows in 3D", list_many_3d, GEMLAB_STACK_LISTING},
+    {"a cell build", build, GEMLAB_STACK},
+    {"a cell search", locate, GEMLAB_STACK},
+};
+
+/* What a thread has for itself before it makes a call. */
+#define BESIDES 16384
+
+/* One call on a thread, and what the stack's filling shows of it. */
+struct job {
+    const struct call *call;
+    struct own *own;
+    struct area stack;
+    pthread_t thread;
+    char *start;
+};
+
+/* Takes up the stack down to what the call is to have. */
+static void *run(void *argument)
+{
+    struct job *job = argument;
+    size_t left = (size_t)((char *)&argument - job->stack.start) - job->call->stack;
+    volatile char taken[left];
+
+    taken[0] = 0;
+    job->start = (char *)taken;
+    job->call->make(job->own);
+    return NULL;
+}
+
+static void begin(struct job *job)
+{
+    pthread_attr_t attributes;
+
+    memset(job->own, 0, sizeof *job->own);
+    memset(job->stack.start, 0x5a, job->stack.size);
+    if (pthread_attr_init(&attributes) != 0
+        || pthread_attr_setstack(&attributes, job->stack.start, job->stack.size) != 0
+        || pthread_create(&job->thread, &attributes, run, job) != 0) {
+        printf("%s: no thread with %zu bytes of stack\n", job->call->name, job->stack.size);
+        exit(2);
+    }
+    pthread_attr_destroy(&attributes);
+}
+
+/* How many bytes the call wrote to at least, with the frame that made it. */
+static size_t depth(const struct job *job)
+{
+    const char *end = job->stack.start;
+
+    while (end < job->start && *end == 0x5a) {
+        end++;
+    }
+    return (size_t)(job->start - end);
+}
+
+static int tried(const struct call *call, int measure)
+{
+    struct job jobs[THREADS];
+    size_t i, most = 0;
+    int same = 1;
+
+    for (i = 0; i < THREADS; i++) {
+        jobs[i].call = call;
+        jobs[i].own = owns[i];
+        jobs[i].stack = make_area(call->stack + BESIDES);
+        begin(&jobs[i]);
+    }
+    for (i = 0; i < THREADS; i++) {
+        pthread_join(jobs[i].thread, NULL);
+        same = same && memcmp(owns[0], owns[i], sizeof *owns[0]) == 0;
+        most = depth(&jobs[i]) > most ? depth(&jobs[i]) : most;
+        free_area(&jobs[i].stack);
+    }
+    printf("%s: returned %" PRIu64 ", on %d threads with %zu bytes left", call->name, owns[0]->returned, THREADS, call->stack);
+    if (measure) {
+        printf(", took %zu", most);
+    }
+    printf("%s\n", same ? "" : ", and not the same on each");
+    fflush(stdout); /* a call that takes more stack ends the program */
+    return same;
+}
+
+/* Full libraries of one mark, at (1000, 0, 0): the rows are written here and not by insertion. And a mesh of squares. */
+static void prepare(void)
+{
+    size_t i, j;
+
+    for (i = 0; i < 2; i++) {
+        /* 256 by 256 and 41 by 41 by 41 containers */
+        gemlab_grid_search_new(low, i + 2, high, i + 2, 1, i == 0 ? 256 : 41, 0, 0, 1, 0, numbers[i], GEMLAB_SHEET_NUMBERS,
+                               floats[i], GEMLAB_SHEET_FLOATS);
+    }
+    for (i = 0; i < MOST; i++) {
+        keys[i] = i;
+        ids[i] = 7;
+        xs[i] = 1000;
+    }
+    for (i = 0; i < POINTS; i++) {
+        coords[2 * i] = (double)(i % (SQUARES + 1)) / 8;
+        coords[2 * i + 1] = (double)(i / (SQUARES + 1)) / 8;
+    }
+    for (i = 0; i < SQUARES; i++) {
+        for (j = 0; j < SQUARES; j++) {
+            uint32_t p = (uint32_t)(i * (SQUARES + 1) + j);
+            const uint32_t square[6] = {p, p + 1, p + SQUARES + 2, p, p + SQUARES + 2, p + SQUARES + 1};
+
+            memcpy(corners + 6 * (i * SQUARES + j), square, sizeof square);
+        }
+    }
+    gemlab_grid_cells_new(2, coords, 2 * POINTS, corners, 3 * CELLS, 0, 0, 0, 0, 0, 0, 0, 0, index_keys, MOST, index_cells, MOST,
+                          index_large, CELLS, index_numbers, GEMLAB_CELLS_NUMBERS, index_floats, GEMLAB_CELLS_FLOATS);
+}
+
+int main(int count, char **arguments)
+{
+    int measure = count > 1 && strcmp(arguments[1], "measure") == 0, good = 1;
+    size_t i;
+
+    for (i = 0; i < THREADS; i++) {
+        owns[i] = malloc(sizeof *owns[i]);
+        if (owns[i] == NULL) {
+            return 2;
+        }
+    }
+    prepare();
+    for (i = 0; i < sizeof calls / sizeof calls[0]; i++) {
+        good = tried(&calls[i], measure) && good;
+    }
+    return good ? 0 : 1;
+}
