@@ -1,6 +1,6 @@
 use crate::c;
 use crate::settings::given;
-use crate::Refusal;
+use crate::{Refusal, ROWS};
 
 /// Triangles in the plane or tetrahedra in space, as flat lists.
 #[derive(Clone, Copy, Debug, PartialEq)]
@@ -30,9 +30,6 @@ pub struct CellIndex {
     /// Side length; xmin; xmax.
     pub floats: [f64; 7],
 }
-
-/// The most rows that a call takes.
-const ROWS: usize = 65536;
 
 impl CellIndex {
     /// An index with space for so many rows and large cells, nothing built.

@@ -7,6 +7,13 @@
 //! The library is `libcapi.a`, which `rt staticlib capi` writes into `target/staticlib`; the environment variable
 //! `HRBOTAJ_LIB` names another folder.
 //!
+//! Calls may run in several threads at once: nothing is kept between them, and what a call writes is borrowed alone. A call
+//! takes at most [`STACK`] bytes of stack, and a listing on which more than 1,024 rows count at most [`STACK_LISTING`].
+//!
+//! What the answers mean in the field is said in the header too: tetrahedra have holes at their rims and lose accuracy far
+//! from the origin, so coordinates are best taken from a local origin beside the mesh; a mark is found for sure at a
+//! position that is nearer than the tolerance on each axis.
+//!
 //! # A survey job
 //!
 //! The same as `examples/survey.c`: a sheet, posts put into a library, a post found by position, the posts on a line,
@@ -73,6 +80,15 @@ mod library;
 mod refusal;
 mod settings;
 mod sheet;
+
+/// The most stack that a call takes, in bytes, but for a listing on which more than 1,024 rows count.
+pub const STACK: usize = 8192;
+
+/// The most stack that a listing takes, in bytes.
+pub const STACK_LISTING: usize = 147456;
+
+/// The most rows that a call takes.
+pub const ROWS: usize = 65536;
 
 pub use cells::{CellIndex, Mesh};
 pub use distances::{point_circle_distance, point_cylinder_distance, point_line_distance, point_point_distance};

@@ -1,5 +1,5 @@
 use crate::c;
-use crate::{Refusal, Sheet};
+use crate::{Refusal, Sheet, ROWS};
 
 /// Marks filed in the containers of a sheet: a row for each container and id.
 ///
@@ -71,8 +71,11 @@ pub enum Filter {
 }
 
 impl Library {
-    /// A library with space for so many rows, none in use. A mark takes one row for each container that it touches: at
-    /// most 4 in 2D and 8 in 3D.
+    /// A library with space for so many rows, none in use.
+    ///
+    /// A mark takes one row for each container that it touches: one mostly, 4 in 2D and 8 in 3D where containers meet,
+    /// and one more where the side of a container is within rounding of twice the tolerance. So there are at most 5 in
+    /// 2D and 9 in 3D, and as many again each time that it is inserted elsewhere.
     pub fn with_space(rows: usize) -> Library {
         Library {
             keys: vec![0; rows],
@@ -82,6 +85,12 @@ impl Library {
             zs: vec![0.0; rows],
             used: 0,
         }
+    }
+
+    /// A library with space for so many insertions of marks, wherever they are, or for the most rows that a call takes.
+    pub fn with_marks(sheet: &Sheet, insertions: usize) -> Library {
+        let rows = if sheet.ndim() == 2 { 5 } else { 9 };
+        Library::with_space(insertions.saturating_mul(rows).min(ROWS))
     }
 
     /// Files the mark `id` at `x` in its container and in those that its halo touches. Where it has a row, the row takes

@@ -1,0 +1,113 @@
+//! What the header says besides the meaning of each call: names, how long lists have to be, threads and stack.
+
+use hrbotaj::{CellIndex, Filter, Library, Mesh, Place, Refusal, Sheet, ROWS, STACK, STACK_LISTING};
+use std::thread;
+
+/// The names that the header defines as numbers, without `GEMLAB_`.
+fn header() -> Vec<(String, u64)> {
+    let text = std::fs::read_to_string(concat!(env!("CARGO_MANIFEST_DIR"), "/../include/gemlab.h")).unwrap();
+    let lines = text.lines().filter_map(|line| line.strip_prefix("#define GEMLAB_"));
+    lines
+        .filter_map(|line| {
+            let mut words = line.split_whitespace();
+            Some((words.next()?.to_string(), words.next()?.parse().ok()?))
+        })
+        .collect()
+}
+
+#[test]
+fn names_are_the_headers() {
+    let header = header();
+    let number = |name: &str| header.iter().find(|(of, _)| of == name).map(|(_, n)| *n);
+    for n in 1..=25 {
+        let name = Refusal(n).name().unwrap();
+        assert_eq!(number(name), Some(n), "{name}");
+    }
+    assert_eq!((Refusal(0).name(), Refusal(26).name()), (None, None));
+    assert_eq!((Refusal::OUTSIDE, Refusal::COORDINATES), (Refusal(11), Refusal(25)));
+    assert_eq!(number("STACK"), Some(STACK as u64));
+    assert_eq!(number("STACK_LISTING"), Some(STACK_LISTING as u64));
+}
+
+/// A sheet whose side is within rounding of twice the tolerance, and the place of a mark whose halo reaches over three
+/// containers on each axis.
+fn tight(ndim: usize) -> (Sheet, Vec<f64>) {
+    let u = 1000f64.next_up() - 1000.0;
+    let (low, high) = (vec![1000.0; ndim], vec![1008.0 - 4.0 * u; ndim]);
+    let sheet = Sheet::new(&low, &high, Some(8), Some(0.5 - 0.45 * u), Some(0.0)).unwrap();
+    (sheet, vec![1001.5 - u; ndim])
+}
+
+#[test]
+fn a_mark_takes_up_to_five_or_nine_rows() {
+    for (ndim, most) in [(2, 5), (3, 9)] {
+        let (sheet, x) = tight(ndim);
+        let mut library = Library::with_marks(&sheet, 1);
+        assert_eq!(library.keys.len(), most);
+        library.insert(&sheet, 7, &x).unwrap();
+        assert_eq!(library.used, most as u64);
+        // the corners of three by three containers, and the middle
+        let expected: Vec<u64> = match ndim {
+            2 => vec![0, 2, 9, 16, 18],
+            _ => vec![0, 2, 16, 18, 73, 128, 130, 144, 146],
+        };
+        assert_eq!(library.keys, expected);
+        assert_eq!(library.search(&sheet, &x), Ok(Some(7)));
+        let mut short = Library::with_space(most - 1);
+        assert_eq!(short.insert(&sheet, 7, &x), Err(Refusal::FULL));
+    }
+    let (sheet, _) = tight(2);
+    assert_eq!(Library::with_marks(&sheet, usize::MAX).keys.len(), ROWS);
+}
+
+#[test]
+fn a_cell_takes_up_to_four_or_eight_rows() {
+    // two cells of one size, the second across the edges of containers on every axis
+    for (ndim, most) in [(2, 4), (3, 8)] {
+        let cell = |from: f64| -> Vec<f64> {
+            let corner = |k: usize, axis: usize| if k == axis + 1 { from + 1.0 } else { from };
+            (0..=ndim).flat_map(|k| (0..ndim).map(move |axis| corner(k, axis))).collect()
+        };
+        let coords = [cell(0.0), cell(0.5)].concat();
+        let corners: Vec<u32> = (0..2 * (ndim as u32 + 1)).collect();
+        let mesh = Mesh { ndim: ndim as u64, coords: &coords, corners: &corners };
+        let index = CellIndex::new(&mesh, None, None, None, None).unwrap();
+        let rows = |cell: u64| index.cells[..index.numbers[4] as usize].iter().filter(|c| **c == cell).count();
+        assert_eq!((rows(1), index.keys.len()), (most, 2 * most));
+    }
+}
+
+/// A library of one mark in so many containers, every row on the circle of radius 1000 about the origin.
+fn full(rows: usize) -> (Sheet, Library) {
+    let sheet = Sheet::new(&[0.0, 0.0], &[8.0, 8.0], Some(256), None, Some(0.0)).unwrap();
+    let mut library = Library::with_space(rows);
+    for i in 0..rows {
+        library.keys[i] = i as u64;
+        library.ids[i] = i as u64 % 5;
+        library.xs[i] = 1000.0;
+    }
+    library.used = rows as u64;
+    (sheet, library)
+}
+
+#[test]
+fn calls_run_in_threads_with_little_stack() {
+    let (sheet, library) = full(ROWS);
+    let circle = Place::Circle { center: &[0.0, 0.0], radius: 1000.0 };
+    // what a thread has for itself
+    let besides = 32768;
+    thread::scope(|scope| {
+        for _ in 0..4 {
+            let all = || assert_eq!(library.list(&sheet, circle, Filter::Everything).unwrap(), [0, 1, 2, 3, 4]);
+            thread::Builder::new().stack_size(STACK_LISTING + besides).spawn_scoped(scope, all).unwrap();
+            let one = || {
+                let mut own = library.clone();
+                own.used -= 5;
+                assert_eq!(own.insert(&sheet, 9, &[4.0, 4.0]), Ok(()));
+                assert_eq!(own.search(&sheet, &[4.0, 4.0]), Ok(Some(9)));
+                assert_eq!(library.search(&sheet, &[4.0, 4.0]), Ok(None));
+            };
+            thread::Builder::new().stack_size(STACK + besides).spawn_scoped(scope, one).unwrap();
+        }
+    });
+}
