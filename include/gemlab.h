@@ -55,15 +55,16 @@
  * Answers are gemlab's, to the last bit, and gemlab rounds. README.md has the figures.
  *
  * Tetrahedra have holes at their rims: a position on a node, an edge or a face can be computed to
- * be outside every cell around it, by some 1e-14 of a cell, and is then answered by found = 0:
- * about one in seven of the nodes within a mesh, one in eight of the middles of edges, one in a
- * thousand of the middles of faces. Triangles have none at nodes and middles of edges.
+ * be outside every cell around it, and is then answered by found = 0: about one in seven of the
+ * nodes within a mesh, one in eight of the middles of edges, one in a thousand of the middles of
+ * faces. Such a position is outside by less than 2e-14 of a cell, and far from the origin by more.
+ * Triangles have none at nodes and middles of edges.
  *
- * Tetrahedra lose accuracy far from the origin, since coordinates are multiplied as they are.
- * At (500000, 900000, 400), coordinates in a cell of 10 m are off by up to 1e-4; in one of 1 m by
- * up to 0.1, and of positions well inside such a cell 2 in 100 are placed in another cell or in
- * none. Triangles lose next to nothing. So take coordinates from a local origin beside the mesh,
- * which also keeps them within the limit of 1,048,576 (3).
+ * Tetrahedra lose accuracy far from the origin, since coordinates are multiplied as they are. At
+ * (500000, 900000, 400), coordinates in a cell of 10 m are off by up to 1e-4; in one of 1 m by up
+ * to 0.1, and of positions well inside such a cell 2 in 100 are placed in another cell or in none.
+ * Triangles lose next to nothing. So take coordinates from a local origin beside the mesh, which
+ * also keeps them within the limit of 1,048,576 (3).
  *
  * A mark is found for sure at a position that is nearer than the tolerance on each axis. Further
  * off and up to tol_dist, it is missed where the edge of a container lies between; at the tolerance

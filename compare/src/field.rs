@@ -112,11 +112,13 @@ fn middle(flat: &Flat, points: &[u32]) -> Vec<f64> {
     (0..flat.ndim).map(|axis| sum(axis) / points.len() as f64).collect()
 }
 
-/// Positions within a mesh: how many were searched, how many were answered Nothing, and how far outside the furthest is.
+/// Positions within a mesh: how many were searched, how many were answered Nothing, how many of these have a coordinate below -1e-8
+/// in every cell, and how far outside the furthest is.
 #[derive(Default)]
 struct Holes {
     tried: u64,
     nothing: u64,
+    wide: u64,
     worst: f64,
 }
 
@@ -124,28 +126,48 @@ impl Holes {
     fn try_at(&mut self, site: &Site, x: &[f64], t: &mut Tally) {
         self.tried += 1;
         if site.search(x, t).is_none() {
+            let best = site.best(x);
             self.nothing += 1;
-            self.worst = self.worst.min(site.best(x));
+            self.wide += (best < -1e-8) as u64;
+            self.worst = self.worst.min(best);
         }
     }
 }
 
-/// Tetrahedra have holes at their rims, triangles have none at nodes and edges and few one last place beside them.
+/// What is due of the holes of meshes: tried and Nothing at inner nodes, the middles of inner edges and triangles, and of cells; one
+/// last place beside nodes and middles of edges; how many are below -1e-8, and a bound of all of them.
+struct Rims {
+    ndim: usize,
+    low: [f64; 3],
+    wide: f64,
+    middles: &'static [(u64, u64)],
+    beside: (u64, u64),
+    below: u64,
+    bound: f64,
+}
+
+/// Tetrahedra have holes at their rims, more and wider ones far from the origin; triangles have none at nodes and edges and few one
+/// last place beside them.
 fn holes(t: &mut Tally) {
     const MESHES: usize = 8;
-    // tried and Nothing: at the nodes, the middles of edges, of triangles and of tetrahedra; one last place beside nodes and edges
-    let met = [
-        (2, 16, 1000.0, vec![(1800, 0), (5888, 0), (4096, 0)], (7688, 3)),
-        (2, 16, 1.0, vec![(1800, 0), (5888, 0), (4096, 0)], (7688, 5)),
-        (3, 6, 1000.0, vec![(1000, 150), (9648, 1180), (19008, 16), (10368, 0)], (10648, 1464)),
-        (3, 6, 1.0, vec![(1000, 150), (9648, 1140), (19008, 0), (10368, 0)], (10648, 1393)),
-    ];
-    for (ndim, along, wide, at_middles, at_sides) in met {
+    const NONE: &[(u64, u64)] = &[(1800, 0), (5888, 0), (4096, 0)];
+    let rims = |ndim, low, wide, middles, beside, below, bound| Rims { ndim, low, wide, middles, beside, below, bound };
+    for due in [
+        rims(2, LOCAL, 1000.0, NONE, (7688, 3), 0, 1e-15),
+        rims(2, LOCAL, 1.0, NONE, (7688, 5), 0, 1e-15),
+        rims(2, FIELD, 1000.0, NONE, (7688, 0), 0, 1e-15),
+        rims(3, LOCAL, 1000.0, &[(1000, 150), (9648, 1180), (19008, 16), (10368, 0)], (10648, 1464), 0, 2e-14),
+        rims(3, LOCAL, 1.0, &[(1000, 150), (9648, 1140), (19008, 0), (10368, 0)], (10648, 1393), 0, 2e-14),
+        rims(3, FIELD, 1000.0, &[(1000, 336), (9648, 1819), (19008, 16), (10368, 0)], (10648, 2421), 190, 5e-8),
+        rims(3, FIELD, 100.0, &[(1000, 394), (9648, 1930), (19008, 8), (10368, 0)], (10648, 2584), 4586, 1e-5),
+    ] {
+        let Rims { ndim, low, wide, .. } = due;
+        let of = || format!("{wide} wide at {low:?} in {ndim}D");
         let mut r = Random::new(52);
         let mut middles: Vec<Holes> = (0..=ndim).map(|_| Holes::default()).collect();
         let mut beside = Holes::default();
         for _ in 0..MESHES {
-            let flat = field_mesh(ndim, along, wide, &LOCAL, &mut r);
+            let flat = field_mesh(ndim, if ndim == 2 { 16 } else { 6 }, wide, &low, &mut r);
             on_site(&flat, t, |site, t| {
                 for (i, holes) in middles.iter_mut().enumerate() {
                     for part in inner(&flat, i + 1) {
@@ -160,13 +182,16 @@ fn holes(t: &mut Tally) {
             });
         }
         let counts: Vec<(u64, u64)> = middles.iter().map(|h| (h.tried, h.nothing)).collect();
-        t.equal(counts, at_middles, || format!("holes of meshes {wide} wide in {ndim}D"));
-        t.equal((beside.tried, beside.nothing), at_sides, || format!("beside nodes and edges, {wide} wide in {ndim}D"));
+        t.equal(counts.as_slice(), due.middles, || format!("holes {}", of()));
+        t.equal((beside.tried, beside.nothing), due.beside, || format!("holes beside nodes and edges {}", of()));
+        let all = || middles.iter().chain([&beside]);
+        t.equal(all().map(|h| h.wide).sum(), due.below, || format!("holes of more than 1e-8 {}", of()));
+        let worst = all().map(|h| h.worst).fold(0.0, f64::min);
+        t.check(worst > -due.bound, || format!("a hole of {worst:e} {}", of()));
+        // which way it goes, whatever the generator
         let many = middles[..2].iter().all(|h| h.nothing * 10 > h.tried);
         let none = middles[..2].iter().all(|h| h.nothing == 0) && beside.nothing * 1000 < beside.tried;
-        t.check(if ndim == 3 { many } else { none }, || format!("holes at nodes and edges in {ndim}D"));
-        let worst = middles.iter().map(|h| h.worst).fold(beside.worst, f64::min);
-        t.check(worst > -2e-14, || format!("a hole of {worst:e}, {wide} wide in {ndim}D"));
+        t.check(if ndim == 3 { many } else { none }, || format!("holes at nodes and edges {}", of()));
     }
 }
 
