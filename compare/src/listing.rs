@@ -16,7 +16,7 @@ use std::time::Instant;
 const CALLS: usize = 1_000_000;
 const CALLS_IN_A_RUN: usize = 100;
 
-/// Listings on libraries that were changed by hand.
+/// Listings on libraries that were changed at random.
 const CHANGED: usize = 200_000;
 
 /// Random lists of calls whose outcome is compared with that of single marks.
@@ -316,9 +316,9 @@ impl Places {
 fn runs(t: &mut Tally) {
     let mut s = Source::new(21);
     let mut p = Places { r: Random::new(22) };
-    let mut calls = 0;
-    while calls < CALLS {
-        calls += 1;
+    let (mut calls, mut tried) = (0, 0);
+    while calls < CALLS && tried < CALLS {
+        tried += 1;
         let settings = s.settings();
         let Some(mut w) = settings.make(64, &mut s.r, t) else { continue };
         let marks = s.r.below(20);
@@ -332,6 +332,7 @@ fn runs(t: &mut Tally) {
         }
         calls += CALLS_IN_A_RUN;
     }
+    t.equal(calls, CALLS, || "random listings".to_string());
 }
 
 /// Libraries with one or two things changed: every refusal in its place in the order 24, 13, 16, 2, 3, 15, 14, read from document
@@ -339,9 +340,9 @@ fn runs(t: &mut Tally) {
 fn changed(t: &mut Tally) {
     let mut s = Source::new(29);
     let mut p = Places { r: Random::new(30) };
-    let mut calls = 0;
-    while calls < CHANGED {
-        calls += 1;
+    let (mut calls, mut tried) = (0, 0);
+    while calls < CHANGED && tried < CHANGED {
+        tried += 1;
         let settings = s.settings();
         let Some(mut w) = settings.make(24, &mut s.r, t) else { continue };
         for _ in 0..s.r.below(12) {
@@ -362,6 +363,7 @@ fn changed(t: &mut Tally) {
         }
         calls += CALLS_IN_A_RUN;
     }
+    t.equal(calls, CHANGED, || "listings on changed libraries".to_string());
 }
 
 /// A sheet of `ndiv` divisions with no rows, and gemlab's.

@@ -618,9 +618,9 @@ impl Source {
 
 fn runs(t: &mut Tally) {
     let mut s = Source::new(11);
-    let mut calls = 0;
-    while calls < CALLS {
-        calls += 1;
+    let (mut calls, mut tried) = (0, 0);
+    while calls < CALLS && tried < CALLS {
+        tried += 1;
         let settings = s.settings();
         let space = s.space();
         let Some(mut w) = settings.make(space, &mut s.r, t) else { continue };
@@ -636,6 +636,7 @@ fn runs(t: &mut Tally) {
         w.check_rust(t);
         calls += CALLS_IN_A_RUN;
     }
+    t.equal(calls, CALLS, || "calls of random runs".to_string());
 }
 
 /// A library of the largest size, filled, and then searched at its marks and beside them.
