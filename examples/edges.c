@@ -39,6 +39,9 @@ struct library {
     uint64_t used;
 };
 
+/* Floats past the count: a signalling NaN, whose bits would change if it were computed with. */
+#define UNREAD UINT64_C(0x7ff40000deadbeef)
+
 /* Rows in order, eight to a container, and past the count entries that are no rows. */
 static struct library fill(size_t len, uint64_t used, int at_end)
 {
@@ -52,13 +55,14 @@ static struct library fill(size_t len, uint64_t used, int at_end)
     }
     for (i = 0; i < len; i++) {
         uint64_t key = i < used ? i / 8 : UINT64_MAX, id = i < used ? i : 0;
-        double x = i < used ? 0.5 : -1e300, z = i < used ? 0.0 : 7.0;
+        uint64_t unread = UNREAD;
+        double x = 0.5, z = 0.0;
 
         memcpy((char *)library.list[0] + 8 * i, &key, 8);
         memcpy((char *)library.list[1] + 8 * i, &id, 8);
-        memcpy((char *)library.list[2] + 8 * i, &x, 8);
-        memcpy((char *)library.list[3] + 8 * i, &x, 8);
-        memcpy((char *)library.list[4] + 8 * i, &z, 8);
+        memcpy((char *)library.list[2] + 8 * i, i < used ? (void *)&x : (void *)&unread, 8);
+        memcpy((char *)library.list[3] + 8 * i, i < used ? (void *)&x : (void *)&unread, 8);
+        memcpy((char *)library.list[4] + 8 * i, i < used ? (void *)&z : (void *)&unread, 8);
     }
     return library;
 }
