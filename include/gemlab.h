@@ -45,20 +45,21 @@
  * Threads and stack
  *
  * Calls may run in several threads at once, as long as none of them writes what another reads or
- * writes: many searches of one library, or insertions into different ones. A call
- * takes at most GEMLAB_STACK bytes of its thread's stack; a listing on which more than 1,024 rows
- * count takes at most GEMLAB_STACK_LISTING.
+ * writes: many searches of one library, or insertions into different ones. A call takes at most
+ * GEMLAB_STACK bytes of its thread's stack; a listing on which more than 1,024 rows count takes at
+ * most GEMLAB_STACK_LISTING.
  *
  *
  * What the answers mean in the field
  *
- * Answers are gemlab's, to the last bit, and gemlab rounds. README.md has the figures.
+ * Answers are gemlab's, to the last bit, and gemlab rounds. The figures are those of the meshes and
+ * marks that were tried; README.md has more of them.
  *
  * Tetrahedra have holes at their rims: a position on a node, an edge or a face can be computed to
  * be outside every cell around it, and is then answered by found = 0: about one in seven of the
  * nodes within a mesh, one in eight of the middles of edges, one in a thousand of the middles of
- * faces. Such a position is outside by less than 2e-14 of a cell, and far from the origin by more.
- * Triangles have none at nodes and middles of edges.
+ * faces. Near the origin they were outside by less than 2e-14 of a cell, far from it by more.
+ * Triangles had no hole at nodes and middles of edges.
  *
  * Tetrahedra lose accuracy far from the origin, since coordinates are multiplied as they are. At
  * (500000, 900000, 400), coordinates in a cell of 10 m are off by up to 1e-4; in one of 1 m by up
