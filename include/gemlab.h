@@ -67,9 +67,10 @@
  * Triangles lose next to nothing. So take coordinates from a local origin beside the mesh, which
  * also keeps them within the limit of 1,048,576 (3).
  *
- * A mark is found for sure at a position that is nearer than the tolerance on each axis. Further
- * off and up to tol_dist, it is missed where the edge of a container lies between; at the tolerance
- * itself, on every axis, rounding decides.
+ * A mark is found at a position that is nearer than the tolerance on each axis by more than
+ * rounding, as long as the side of a container is more than twice the tolerance by more than
+ * rounding too. Further off and up to tol_dist, it is missed where the edge of a container lies
+ * between.
  */
 #ifndef GEMLAB_H
 #define GEMLAB_H

@@ -11,8 +11,8 @@
 //! takes at most [`STACK`] bytes of stack, and a listing on which more than 1,024 rows count at most [`STACK_LISTING`].
 //!
 //! What the answers mean in the field is said in the header too: tetrahedra have holes at their rims and lose accuracy far
-//! from the origin, so coordinates are best taken from a local origin beside the mesh; a mark is found for sure at a
-//! position that is nearer than the tolerance on each axis.
+//! from the origin, so coordinates are best taken from a local origin beside the mesh; a mark is found at a
+//! position that is nearer than the tolerance on each axis by more than rounding.
 //!
 //! # A survey job
 //!

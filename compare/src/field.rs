@@ -271,7 +271,7 @@ impl Missed {
     }
 }
 
-/// A mark is found for sure within the tolerance on every axis. Between that and tol_dist it is missed where the position lies across
+/// A mark is found within the tolerance on every axis, but for what `tight` shows. Between that and tol_dist it is missed where the position lies across
 /// the edge of a container; at the tolerance itself, on every axis, rounding decides.
 fn marks(t: &mut Tally) {
     const LIBRARIES: usize = 20_000;
@@ -327,10 +327,37 @@ fn marks(t: &mut Tally) {
     }
 }
 
+/// Where the side is within rounding of twice the tolerance, a mark is missed even nearer than the tolerance: its halo reaches over
+/// three containers on an axis, and it has no row in one of those between the corners.
+fn tight(t: &mut Tally) {
+    let (low, high, tolerance) = (0.1, 8.099999999999994, 0.49999999999999956);
+    let (mark, beside) = (4.599999999999996, 4.099999999999997);
+    t.check(mark - beside < tolerance, || "a position nearer than the tolerance".to_string());
+    for (ndim, rows) in [(2, 5), (3, 9)] {
+        let settings = rows::Settings {
+            xmin: vec![low; ndim],
+            xmax: vec![high; ndim],
+            ndiv: Some(8),
+            tolerance: Some(tolerance),
+            border_tol: Some(0.0),
+        };
+        let Some(mut w) = settings.make(16, &mut Random::new(56), t) else { return };
+        let mut x = vec![mark; ndim];
+        w.insert(7, &x, t);
+        t.equal(w.rows.len(), rows, || format!("rows of the mark in {ndim}D"));
+        let at = w.search(&x, t);
+        t.equal(at, Some(7), || format!("at the mark in {ndim}D"));
+        x[1] = beside;
+        let near = w.search(&x, t);
+        t.equal(near, None, || format!("nearer than the tolerance in {ndim}D"));
+    }
+}
+
 pub fn compare(t: &mut Tally) {
     holes(t);
     far(t);
     marks(t);
+    tight(t);
     t.met("grid_cells_search", &[0]);
     t.met("insert", &[0]);
     t.met("search", &[0]);
