@@ -3,27 +3,31 @@
 use Prim.Native.Nat.{ℕ, _%_}
 use native.Mathlib.Omega.{arith}
 use mathlib.Core.Path.{_≡_, refl, sym, ap, _∙_, subst}
-use mathlib.Core.Bool.{true}
+use mathlib.Core.Bool.{Bool, true, false, cond}
 use mathlib.Core.Option.{Option, none, some}
 use mathlib.Core.List.{List, [], _++_}
+use lib.Dec.{ltb}
+use lib.IntN.{ℤ}
 use lib.ListN.{length, length-append}
 use lib.Ieee.{Float}
 use Rattle.basics.specs.Refusals.{Answer, refused, success}
 use Rattle.grid_search.specs.declared.GridSearch.{GridSearch}
 use Rattle.grid_search.specs.declared.Made.{Made}
-use Rattle.grid_search.specs.declared.Made.the-variants.{Sheet, Refused}
 use Rattle.grid_search.specs.Sheet.{made, sheetOk}
 use Rattle.rows.specs.declared.Inserted.{Inserted}
-use Rattle.rows.specs.declared.Inserted.the-variants.{Stored}
+use Rattle.rows.specs.declared.Inserted.the-variants as insert
 use Rattle.rows.specs.Library.{Library, library, Turn}
 use Rattle.rows.specs.Insert.{inserted, Gives}
 use Rattle.display.specs.Display.{refusal}
-use Rattle.loading.specs.Loading.{sheetOf, insertBytes}
-use Rattle.loading.proofs.Chunks.{in-parts}
+use Rattle.loading.specs.Loading.{sheetIn, insertBytes}
+use Rattle.loading.proofs.Chunks.{in-parts, stored-whole}
 use Rattle.loading.proofs.Marks.{then-success}
 use Rattle.outcome.specs.Outcome.{libraryText, outcomeText, emptyLibrary, afterSheet, printed}
 use Rattle.outcome.proofs.Reading.{bytes-used, same-text, sheet-good}
-use Rattle.catalogue.specs.Files.{sheetIn, SheetRead, MarksIn, MarksRead, MoreRead, Judged, Printed}
+use Rattle.files.specs.declared.Part.{Part}
+use Rattle.files.specs.declared.Part.the-variants.{More, Last, Refused}
+use Rattle.files.specs.Files.{isWhole, partOf, marksAnswer}
+use Rattle.catalogue.specs.Files.{SheetRead, GoodSheet, MarksIn, MarksRead, MoreRead, PartRead, Judged, Printed}
 
 no-bytes : (s : GridSearch) (l : Library) → insertBytes s l [] ≡ record { library = l; answer = success (l .used) }
 unfolding insertBytes
@@ -53,28 +57,56 @@ module _ (s : GridSearch) where
         ∙ then-success turn (insertBytes s (turn .library) bytes) used (sym (m .is .answers))
         ∙ ap (λ (k : Library). insertBytes s k bytes) left)
 
-    module _ {keys′ ids′ : List ℕ} {xs′ ys′ zs′ : List Float} where
-      -- more whole records
-      pub more : (n : ℕ) → MoreRead s (library keys ids xs ys zs used) n keys′ ids′ xs′ ys′ zs′ → MoreRead s l n keys′ ids′ xs′ ys′ zs′
-      more n p = record {
-        bytes = m .bytes ++ p .bytes;
-        whole = rw length-append (omega (arith, m .whole, p .whole));
-        is = subst (λ (t : Turn ℕ). Gives t (Stored n) keys′ ids′ xs′ ys′ zs′) (after (p .bytes)) (p .is);
+    -- and then another part
+    module _ {keys′ ids′ : List ℕ} {xs′ ys′ zs′ : List Float} (p : Part) (q : PartRead s (library keys ids xs ys zs used) p keys′ ids′ xs′ ys′ zs′) (n : ℕ) where
+      both : MoreRead s (library keys ids xs ys zs used) n keys′ ids′ xs′ ys′ zs′ → MoreRead s l n keys′ ids′ xs′ ys′ zs′
+      both k = record {
+        bytes = m .bytes ++ k .bytes;
+        whole = rw length-append (omega (arith, m .whole, k .whole));
+        is = subst (λ (t : Turn ℕ). Gives t (insert.Stored n) keys′ ids′ xs′ ys′ zs′) (after (k .bytes)) (k .is);
       }
 
-      -- the rest of the file
-      pub rest : (r : Inserted) → MarksRead s (library keys ids xs ys zs used) r keys′ ids′ xs′ ys′ zs′ → MarksRead s l r keys′ ids′ xs′ ys′ zs′
-      rest r p = go (p .file) (p .is)
+      pub more : p ≡ More n → MoreRead s l n keys′ ids′ xs′ ys′ zs′
+      more e = both (subst (λ (x : Part). PartRead s (library keys ids xs ys zs used) x keys′ ids′ xs′ ys′ zs′) e q)
+
+      pub last : p ≡ Last n → MoreRead s l n keys′ ids′ xs′ ys′ zs′
+      last e = both (subst (λ (x : Part). PartRead s (library keys ids xs ys zs used) x keys′ ids′ xs′ ys′ zs′) e q)
+
+      pub stopped : p ≡ Refused n → MarksRead s l (insert.Refused n) keys′ ids′ xs′ ys′ zs′
+      stopped e = let k : MarksRead s (library keys ids xs ys zs used) (insert.Refused n) keys′ ids′ xs′ ys′ zs′ = subst (λ (x : Part). PartRead s (library keys ids xs ys zs used) x keys′ ids′ xs′ ys′ zs′) e q in go (k .file) (k .is)
         where
-          go : (file : Option (List ℕ)) → MarksIn s (library keys ids xs ys zs used) file r keys′ ids′ xs′ ys′ zs′ → MarksRead s l r keys′ ids′ xs′ ys′ zs′
-          go none e = record { file = none; is = e }
-          go (some bytes) e = record { file = some (m .bytes ++ bytes); is = subst (λ (t : Turn ℕ). Gives t r keys′ ids′ xs′ ys′ zs′) (after bytes) e }
+          go : (file : Option (List ℕ)) → MarksIn s (library keys ids xs ys zs used) file (insert.Refused n) keys′ ids′ xs′ ys′ zs′ → MarksRead s l (insert.Refused n) keys′ ids′ xs′ ys′ zs′
+          go none f = record { file = none; is = f }
+          go (some bytes) f = record { file = some (m .bytes ++ bytes); is = subst (λ (t : Turn ℕ). Gives t (insert.Refused n) keys′ ids′ xs′ ys′ zs′) (after bytes) f }
+
+    -- the end of the file, or none
+    pub ended : (opened next : ℤ) (r : Inserted) → inserted r ≡ marksAnswer opened next used → MarksRead s l r keys ids xs ys zs
+    unfolding marksAnswer
+    ended opened next r e = go (isWhole opened next) e
+      where
+        go : (b : Bool) → inserted r ≡ cond b (success used) (refused 13) → MarksRead s l r keys ids xs ys zs
+        go true f = record { file = some (m .bytes); is = record { answers = f ∙ m .is .answers; keys-are = m .is .keys-are; ids-are = m .is .ids-are; xs-are = m .is .xs-are; ys-are = m .is .ys-are; zs-are = m .is .zs-are } }
+        go false f = record { file = none; is = f }
+
+  -- a part that gave this answer
+  pub part : (l : Library) (bytes : List ℕ) (came asked : ℕ) {keys ids : List ℕ} {xs ys zs : List Float} (answer : Inserted) (r : Part)
+      → Gives (insertBytes s l bytes) answer keys ids xs ys zs → r ≡ partOf came asked (inserted answer) → PartRead s l r keys ids xs ys zs
+  unfolding partOf
+  part l bytes came asked {keys} {ids} {xs} {ys} {zs} answer r g e = subst (λ (p : Part). PartRead s l p keys ids xs ys zs) (sym e) (go answer g)
+    where
+      taken : (rows : ℕ) → Gives (insertBytes s l bytes) (insert.Stored rows) keys ids xs ys zs → (b : Bool) → PartRead s l (cond b (Last rows) (More rows)) keys ids xs ys zs
+      taken rows h true = record { bytes = bytes; whole = stored-whole s l bytes rows (sym (h .answers)); is = h }
+      taken rows h false = record { bytes = bytes; whole = stored-whole s l bytes rows (sym (h .answers)); is = h }
+
+      go : (a : Inserted) → Gives (insertBytes s l bytes) a keys ids xs ys zs → PartRead s l (partOf came asked (inserted a)) keys ids xs ys zs
+      go (insert.Stored rows) h = taken rows h (ltb came asked)
+      go (insert.Refused n) h = record { file = some bytes; is = h }
 
 -- ---- what is printed
 
-pub unread : (s : GridSearch) (text : List ℕ) → text ≡ refusal 13 → Judged s text
+unread : (s : GridSearch) → refusal 13 ≡ afterSheet (success s) none
 unfolding afterSheet
-unread s text e = record { marks = none; is = e }
+unread s = refl
 
 -- the text looks at the lists and not at the count beside them
 same-lists : (s : GridSearch) (l m : Library) (o : Answer ℕ) → l .keys ≡ m .keys → l .ids ≡ m .ids → l .xs ≡ m .xs → l .ys ≡ m .ys → l .zs ≡ m .zs → outcomeText s l o ≡ outcomeText s m o
@@ -93,7 +125,7 @@ unfolding afterSheet
 after-marks s good bytes = same-text s good bytes (insertBytes s emptyLibrary bytes .answer) refl
 
 module _ (s : GridSearch) (good : sheetOk s ≡ true) (r : Inserted) (keys ids : List ℕ) (xs ys zs : List Float) (text : List ℕ) where
-  pub judged : MarksRead s emptyLibrary r keys ids xs ys zs → text ≡ outcomeText s (library keys ids xs ys zs 0) (inserted r) → Judged s text
+  pub judged : MarksRead s emptyLibrary r keys ids xs ys zs → text ≡ outcomeText s (library keys ids xs ys zs 0) (inserted r) → Judged (success s) text
   judged p e = go (p .file) (p .is)
     where
       whole : (bytes : List ℕ) → Gives (insertBytes s emptyLibrary bytes) r keys ids xs ys zs → outcomeText s (library keys ids xs ys zs 0) (inserted r) ≡ afterSheet (success s) (some bytes)
@@ -103,47 +135,27 @@ module _ (s : GridSearch) (good : sheetOk s ≡ true) (r : Inserted) (keys ids :
           ∙ same-lists s (library keys ids xs ys zs 0) (t .library) (t .answer) (g .keys-are) (g .ids-are) (g .xs-are) (g .ys-are) (g .zs-are)
           ∙ after-marks s good bytes
 
-      go : (file : Option (List ℕ)) → MarksIn s emptyLibrary file r keys ids xs ys zs → Judged s text
-      go none f = unread s text (e ∙ ap (λ (q : Inserted). outcomeText s (library keys ids xs ys zs 0) (inserted q)) f ∙ refused-text s (library keys ids xs ys zs 0) 13)
+      go : (file : Option (List ℕ)) → MarksIn s emptyLibrary file r keys ids xs ys zs → Judged (success s) text
+      go none f = record { marks = none; is = e ∙ ap (outcomeText s (library keys ids xs ys zs 0)) f ∙ refused-text s (library keys ids xs ys zs 0) 13 ∙ unread s }
       go (some bytes) g = record { marks = some bytes; is = e ∙ whole bytes g }
 
 -- ---- the sheet that was read
 
-no : {A B : Type 0} (n : ℕ) (s : A) → _≡_ {A = Answer A} (success s) (refused n) → B
+no : {A B : Type 0} (n : ℕ) (s : A) → _≡_ {A = Answer A} (refused n) (success s) → B
 no n s e = absurd (let z : _≡_ {A = ℕ} 0 1 = cc in omega arith)
 
-pub good-sheet : (r : Made) (s : GridSearch) → SheetRead r → r ≡ Sheet s → sheetOk s ≡ true
-good-sheet r s p e = go (p .file) (sym (ap made e) ∙ p .is)
+pub good-sheet : (r : Made) → SheetRead r → GoodSheet r
+unfolding sheetIn
+good-sheet r p s e = go (p .file) (sym (p .is) ∙ e)
   where
-    go : (file : Option (List ℕ)) → success s ≡ sheetIn file → sheetOk s ≡ true
+    go : (file : Option (List ℕ)) → sheetIn file ≡ success s → sheetOk s ≡ true
     go none f = no 13 s f
-    go (some bytes) f = sheet-good bytes s (sym f)
+    go (some bytes) f = sheet-good bytes s f
 
-sheet-text : (bytes : List ℕ) (marks : Option (List ℕ)) (o : Answer GridSearch) → o ≡ sheetOf bytes → afterSheet o marks ≡ printed (some bytes) marks
-unfolding printed
-sheet-text bytes marks o e = ap (λ (a : Answer GridSearch). afterSheet a marks) e
-
-pub of-sheet : (r : Made) (s : GridSearch) (text : List ℕ) → SheetRead r → r ≡ Sheet s → Judged s text → Printed text
-of-sheet r s text p e j = go (p .file) (sym (ap made e) ∙ p .is)
-  where
-    go : (file : Option (List ℕ)) → success s ≡ sheetIn file → Printed text
-    go none f = no 13 s f
-    go (some bytes) f = record { sheet = some bytes; marks = j .marks; is = j .is ∙ sheet-text bytes (j .marks) (success s) f }
-
-refused-sheet : (n : ℕ) → refusal n ≡ afterSheet (refused n) none
+pub of-refusal : (n : ℕ) (text : List ℕ) → text ≡ refusal n → Judged (refused n) text
 unfolding afterSheet
-refused-sheet n = refl
+of-refusal n text e = record { marks = none; is = e }
 
-no-sheet : refusal 13 ≡ printed none none
+pub of-files : (r : Made) (text : List ℕ) → SheetRead r → Judged (made r) text → Printed text
 unfolding printed
-no-sheet = refl
-
-pub of-refusal : (r : Made) (n : ℕ) (text : List ℕ) → SheetRead r → r ≡ Refused n → text ≡ refusal n → Printed text
-of-refusal r n text p e f = go (p .file) (sym (ap made e) ∙ p .is)
-  where
-    same : _≡_ {A = Answer GridSearch} (refused n) (refused 13) → n ≡ 13
-    same g = cc
-
-    go : (file : Option (List ℕ)) → refused n ≡ sheetIn file → Printed text
-    go none g = record { sheet = none; marks = none; is = f ∙ ap refusal (same g) ∙ no-sheet }
-    go (some bytes) g = record { sheet = some bytes; marks = none; is = f ∙ refused-sheet n ∙ sheet-text bytes none (refused n) g }
+of-files r text p j = record { sheet = p .file; marks = j .marks; is = j .is ∙ ap (λ (o : Answer GridSearch). afterSheet o (j .marks)) (p .is) }

@@ -3,6 +3,7 @@
 -- Assumes nothing.
 use Prim.Native.Nat.{ℕ, _%_}
 use mathlib.Core.Path.{_≡_}
+use mathlib.Core.Bool.{true}
 use mathlib.Core.Option.{Option, none, some}
 use mathlib.Core.List.{List}
 use lib.ListN.{length}
@@ -10,31 +11,31 @@ use lib.Ieee.{Float}
 use Rattle.basics.specs.Refusals.{Answer, refused, success}
 use Rattle.grid_search.specs.declared.Made.{Made}
 use Rattle.grid_search.specs.declared.GridSearch.{GridSearch}
-use Rattle.grid_search.specs.Sheet.{made}
+use Rattle.grid_search.specs.Sheet.{made, sheetOk}
 use Rattle.rows.specs.declared.Inserted.{Inserted}
-use Rattle.rows.specs.declared.Inserted.the-variants.{Stored, Refused}
+use Rattle.rows.specs.declared.Inserted.the-variants as insert
 use Rattle.rows.specs.Library.{Library}
-use Rattle.rows.specs.Insert.{Gives}
-use Rattle.loading.specs.Loading.{sheetOf, insertBytes}
+use Rattle.rows.specs.Insert.{inserted, Gives}
+use Rattle.loading.specs.Loading.{sheetIn, insertBytes}
 use Rattle.outcome.specs.Outcome.{afterSheet, printed}
-use Rattle.catalogue.specs.declared.Part.{Part}
-use Rattle.catalogue.specs.declared.Part.the-variants.{More, Last}
+use Rattle.files.specs.declared.Part.{Part}
+use Rattle.files.specs.declared.Part.the-variants.{More, Last, Refused}
 
 -- ---- sheet.bin
-
-abbrev pub sheetIn : Option (List ℕ) → Answer GridSearch
-sheetIn none = refused 13
-sheetIn (some bytes) = sheetOf bytes
 
 pub record SheetRead (r : Made) : Type 0 where
   pub file : Option (List ℕ)
   pub is : made r ≡ sheetIn file
 
+-- a sheet that was not refused passes the check
+abbrev pub GoodSheet : Made → Type 0
+GoodSheet r = (s : GridSearch) → made r ≡ success s → sheetOk s ≡ true
+
 -- ---- marks.bin
 
 -- the marks of the bytes are inserted into l, with this answer and these lists
 abbrev pub MarksIn : GridSearch → Library → Option (List ℕ) → Inserted → List ℕ → List ℕ → List Float → List Float → List Float → Type 0
-MarksIn s l none r keys ids xs ys zs = r ≡ Refused 13
+MarksIn s l none r keys ids xs ys zs = inserted r ≡ refused 13
 MarksIn s l (some bytes) r keys ids xs ys zs = Gives (insertBytes s l bytes) r keys ids xs ys zs
 
 pub record MarksRead (s : GridSearch) (l : Library) (r : Inserted) (keys ids : List ℕ) (xs ys zs : List Float) : Type 0 where
@@ -45,19 +46,22 @@ pub record MarksRead (s : GridSearch) (l : Library) (r : Inserted) (keys ids : L
 pub record MoreRead (s : GridSearch) (l : Library) (used : ℕ) (keys ids : List ℕ) (xs ys zs : List Float) : Type 0 where
   pub bytes : List ℕ
   pub whole : length bytes % 32 ≡ 0
-  pub is : Gives (insertBytes s l bytes) (Stored used) keys ids xs ys zs
+  pub is : Gives (insertBytes s l bytes) (insert.Stored used) keys ids xs ys zs
 
--- a part of the file, or the rest of it
+-- a part of the file: its marks were all taken, or one of them was turned away
 abbrev pub PartRead : GridSearch → Library → Part → List ℕ → List ℕ → List Float → List Float → List Float → Type 0
 PartRead s l (More used) keys ids xs ys zs = MoreRead s l used keys ids xs ys zs
-PartRead s l (Last r) keys ids xs ys zs = MarksRead s l r keys ids xs ys zs
+PartRead s l (Last used) keys ids xs ys zs = MoreRead s l used keys ids xs ys zs
+PartRead s l (Refused n) keys ids xs ys zs = MarksRead s l (insert.Refused n) keys ids xs ys zs
 
 -- ---- what is printed
 
-pub record Judged (s : GridSearch) (text : List ℕ) : Type 0 where
+-- of what sheet.bin gave, and some content of marks.bin
+pub record Judged (sheet : Answer GridSearch) (text : List ℕ) : Type 0 where
   pub marks : Option (List ℕ)
-  pub is : text ≡ afterSheet (success s) marks
+  pub is : text ≡ afterSheet sheet marks
 
+-- of some content of both
 pub record Printed (text : List ℕ) : Type 0 where
   pub sheet : Option (List ℕ)
   pub marks : Option (List ℕ)

@@ -1,48 +1,42 @@
 // Reads a sheet from `sheet.bin` and marks from `marks.bin`, inserts the marks into space for 1,024 rows, and prints the
 // library as gemlab's `Display` does, or `refused N` alone. Nothing is printed before the whole of `marks.bin` is judged.
+//
+// What the files hold is decided in `files`, by what the calls on them answered. So a call is made whatever the one before it
+// answered: where a file cannot be opened, reading it fails too, and that is handed over.
 ghost use Prim.Native.Nat.{_≤_};
+ghost use lib.ListN.{length, take};
 ghost use mathlib.Core.Path.{_≡_};
 ghost use mathlib.Core.Bool.{true};
-ghost use lib.ListN.{length, take};
-ghost use Rattle.grid_search.specs.Sheet.{sheetOk};
+ghost use Rattle.basics.specs.Refusals.{success};
+ghost use Rattle.grid_search.specs.Sheet.{made, sheetOk};
 ghost use Rattle.rows.specs.Library.{library};
-ghost use Rattle.catalogue.specs.Files.{SheetRead, MarksRead, PartRead, Judged, Printed};
+ghost use Rattle.catalogue.specs.Files.{SheetRead, MarksRead, PartRead, GoodSheet, Judged, Printed};
+use files::Part;
 use grid_search::GridSearch;
 use grid_search::Made;
+use libc::STDERR_FILENO;
 use libc::STDOUT_FILENO;
 use rows::Inserted;
 
-// What is known once a part of the marks is inserted: how many rows are in use, or the answer to the whole file.
-enum Part {
-    More(usize),
-    Last(Inserted),
-}
-
-// Whether a file ends where it was read up to. Where it cannot be read, it does not.
-fn is_at_end(fd: i32) -> bool {
+// What reading on answers, after all that was asked for was read.
+fn read_on(fd: i32) -> isize {
     let mut byte = [0u8; 1];
-    libc::read(fd, &mut byte) == 0
+    libc::read(fd, &mut byte)
 }
 
-// The sheet of `sheet.bin`, which has to end after two records.
+// The sheet of `sheet.bin`.
 fn read_sheet() -> Made
     ensures { λ r. ⌜ SheetRead r ⌝ }
 {
     let fd = os::open_read(b"sheet.bin");
-    if fd < 0 {
-        return Made::Refused(13);
-    }
     let mut bytes = [0u8; 64];
     let n = io::read_full(fd, &mut bytes);
-    let is_whole = is_at_end(fd);
+    let after = read_on(fd);
     libc::close(fd);
-    if !is_whole {
-        return Made::Refused(13);
-    }
-    loading::sheet_of_records(&bytes[..n])
+    files::sheet_of_file(fd, &bytes[..n], after)
 }
 
-// Inserts the marks of the next 2,048 records. Fewer bytes are the file's last.
+// Inserts the marks of the next 2,048 records.
 fn insert_part(
     fd: i32,
     sheet: GridSearch,
@@ -58,16 +52,7 @@ fn insert_part(
     let mut bytes = io::large_buffer();
     let n = io::read_full(fd, &mut bytes);
     let answer = loading::insert_records(sheet, keys, ids, xs, ys, zs, used, &bytes[..n]);
-    let Inserted::Stored(rows) = answer else {
-        return Part::Last(answer);
-    };
-    if n == 65536 {
-        return Part::More(rows);
-    }
-    if is_at_end(fd) {
-        return Part::Last(answer);
-    }
-    Part::Last(Inserted::Refused(13))
+    files::part_of(n, 65536, answer)
 }
 
 // Inserts the marks of a file. A proved loop has to end, and nothing says that a file does: so the loop counts its turns
@@ -89,23 +74,24 @@ fn insert_file(
         let part = insert_part(fd, sheet, keys, ids, xs, ys, zs, used);
         match part {
             Part::More(rows) => used = rows,
-            Part::Last(answer) => return answer,
+            Part::Last(rows) => {
+                let after = read_on(fd);
+                return files::marks_answer(fd, after, rows);
+            }
+            Part::Refused(number) => return Inserted::Refused(number),
         }
         turns -= 1;
     }
     Inserted::Refused(13)
 }
 
-// What is printed of a good sheet.
-fn catalogue(sheet: GridSearch, text: &mut [u8; 70804]) -> usize
+// What is printed of a good sheet and `marks.bin`.
+fn put_marks(sheet: GridSearch, text: &mut [u8; 70804]) -> usize
     requires { ⌜ sheetOk sheet ≡ true ⌝ }
     ensures { λ r. ⌜ (r ≤ length (now (text .exit))) × (r ≡ length (take r (now (text .exit)))) ⌝ }
-    ensures { λ r. ⌜ Judged sheet (take r (now (text .exit))) ⌝ }
+    ensures { λ r. ⌜ Judged (success sheet) (take r (now (text .exit))) ⌝ }
 {
     let fd = os::open_read(b"marks.bin");
-    if fd < 0 {
-        return outcome::put_refused(13, text);
-    }
     let mut keys = [0u64; 1024];
     let mut ids = [0u64; 1024];
     let mut xs = [0.0f64; 1024];
@@ -116,20 +102,36 @@ fn catalogue(sheet: GridSearch, text: &mut [u8; 70804]) -> usize
     outcome::put_outcome(sheet, &keys, &ids, &xs, &ys, &zs, answer, text)
 }
 
+// What is printed after `sheet.bin` gave this sheet. Where it is refused, `marks.bin` is not looked at.
+fn put_catalogue(sheet: Made, text: &mut [u8; 70804]) -> usize
+    requires { ⌜ GoodSheet sheet ⌝ }
+    ensures { λ r. ⌜ (r ≤ length (now (text .exit))) × (r ≡ length (take r (now (text .exit)))) ⌝ }
+    ensures { λ r. ⌜ Judged (made sheet) (take r (now (text .exit))) ⌝ }
+{
+    match sheet {
+        Made::Sheet(good) => put_marks(good, text),
+        Made::Refused(number) => outcome::put_refused(number, text),
+    }
+}
+
 // What is printed of the two files: it stands at the front of the buffer.
 fn put_text(text: &mut [u8; 70804]) -> usize
     ensures { λ r. ⌜ (r ≤ length (now (text .exit))) × (r ≡ length (take r (now (text .exit)))) ⌝ }
     ensures { λ r. ⌜ Printed (take r (now (text .exit))) ⌝ }
 {
-    let made = read_sheet();
-    match made {
-        Made::Sheet(sheet) => catalogue(sheet, text),
-        Made::Refused(number) => outcome::put_refused(number, text),
-    }
+    let sheet = read_sheet();
+    put_catalogue(sheet, text)
+}
+
+// Says on standard error where a text was not written.
+fn complain(written: bool, line: &[u8]) {
+    let n = files::said_of(written, line);
+    io::write_all(STDERR_FILENO, &line[..n]);
 }
 
 fn main() {
     let mut text = [0u8; 70804];
     let n = put_text(&mut text);
-    io::write_all(STDOUT_FILENO, &text[..n]);
+    let written = io::write_all(STDOUT_FILENO, &text[..n]);
+    complain(written, b"catalogue: the text could not be written whole\n");
 }

@@ -6,12 +6,14 @@ use native.Mathlib.Nat.{zero-add, suc-add, add-assoc}
 use native.Mathlib.Omega.{arith}
 use mathlib.Core.Path.{_≡_, refl, sym, ap, ap₂, _∙_}
 use mathlib.Core.Bool.{Bool, true, false, not}
-use mathlib.Core.Option.{Option, none, some}
+use mathlib.Core.Logic.{_⊎_, inl, inr}
+use mathlib.Core.Option.{Option, none, some, Option·some-ne-none}
 use mathlib.Core.List.{List, [], _∷_, _++_}
 use lib.Dec.{eqb}
 use lib.ListN.{length, take, drop, length-append, length-drop}
 use lib.Seq.{drop-append-le, take-append-le, drop-append-add}
-use borrow.Author.Tests.{eq-eqb}
+use borrow.Author.Tests.{eq-eqb, eqb-true}
+use Rattle.basics.specs.Bools.{which}
 use Rattle.basics.specs.Lists.{tab}
 use Rattle.basics.specs.Refusals.{Answer, refused, success, refuse, fault}
 use Rattle.grid_search.specs.declared.GridSearch.{GridSearch}
@@ -96,6 +98,21 @@ leftover-rest a b e =
     let rest : length (a ++ b) % 32 ≡ length b % 32 = rw length-append (omega arith) in
     ap (λ (n : ℕ). fault (refuse 13 (not (eqb n 0)) ∷ [])) rest
 
+leftover-whole : (a : List ℕ) → leftover a ≡ none → length a % 32 ≡ 0
+unfolding leftover fault
+leftover-whole a e = go (which (eqb (length a % 32) 0))
+  where
+    go : (eqb (length a % 32) 0 ≡ true) ⊎ (eqb (length a % 32) 0 ≡ false) → length a % 32 ≡ 0
+    go (inl t) = eqb-true (length a % 32) 0 t
+    go (inr f) = absurd (Option·some-ne-none 13 (rw f at e))
+
+none-left : (left : Option ℕ) (t : Turn ℕ) (o : Answer ℕ) (n : ℕ) → t .answer ≡ o
+    → andThen t o (record { library = t .library; answer = unless left (t .answer) }) .answer ≡ success n → left ≡ none
+unfolding andThen unless
+none-left left t (refused m) n a e = absurd (let z : _≡_ {A = ℕ} 0 1 = cc in omega arith)
+none-left none t (success m) n a e = refl
+none-left (some k) t (success m) n a e = absurd (let z : _≡_ {A = ℕ} 0 1 = cc in omega arith)
+
 module _ (s : GridSearch) where
   pub insert-append : (l : Library) (rs qs : List Record)
       → insertAll s l (rs ++ qs) ≡ andThen (insertAll s l rs) (insertAll s l rs .answer) (insertAll s (insertAll s l rs .library) qs)
@@ -116,6 +133,11 @@ module _ (s : GridSearch) where
   whole-records : (l : Library) (a : List ℕ) → length a % 32 ≡ 0 → insertBytes s l a ≡ insertAll s l (recordsOf a)
   unfolding insertBytes finish unless
   whole-records l a e = rw (leftover-none a e) (finish-none (insertAll s l (recordsOf a)) (insertAll s l (recordsOf a) .answer) refl)
+
+  -- bytes whose marks were all taken, with none left over, are whole records
+  pub stored-whole : (l : Library) (a : List ℕ) (n : ℕ) → insertBytes s l a .answer ≡ success n → length a % 32 ≡ 0
+  unfolding insertBytes finish
+  stored-whole l a n e = leftover-whole a (none-left (leftover a) (insertAll s l (recordsOf a)) (insertAll s l (recordsOf a) .answer) n refl e)
 
   -- a part that is whole records, then the rest of the file
   pub in-parts : (l : Library) (a b : List ℕ) → length a % 32 ≡ 0

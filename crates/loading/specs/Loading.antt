@@ -44,6 +44,12 @@ sheetOf bytes =
     unless (fault (fileTests bytes))
     (newSheet (placeOf (low .id) low) (placeOf (low .id) high) (number.Given (high .id)) float.LeftOut float.LeftOut)
 
+-- the sheet of what the file holds; none: a file that is missing or cannot be read
+unfoldable pub sheetIn : Option (List ℕ) → Answer GridSearch
+unfolding sheetOf
+sheetIn none = refused 13
+sheetIn (some bytes) = sheetOf bytes
+
 -- ---- marks.bin: a record for each mark
 
 -- the whole records

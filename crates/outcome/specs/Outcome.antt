@@ -10,7 +10,7 @@ use Rattle.floats.specs.Rounded.{zeroF}
 use Rattle.grid_search.specs.declared.GridSearch.{GridSearch}
 use Rattle.rows.specs.Library.{Library, library, table, libraryTests, Turn}
 use Rattle.display.specs.Display.{displayText, refusal}
-use Rattle.loading.specs.Loading.{sheetOf, insertBytes}
+use Rattle.loading.specs.Loading.{sheetIn, insertBytes}
 
 -- ---- what is printed of a library and an answer, whatever they are
 
@@ -53,6 +53,5 @@ afterSheet (success s) (some bytes) = let t = insertBytes s emptyLibrary bytes i
 
 -- what sheet.bin and marks.bin hold; none: a file that is missing or cannot be read
 unfoldable pub printed : Option (List ℕ) → Option (List ℕ) → List ℕ
-unfolding refusal afterSheet sheetOf
-printed none marks = refusal 13
-printed (some bytes) marks = afterSheet (sheetOf bytes) marks
+unfolding afterSheet sheetIn
+printed sheet marks = afterSheet (sheetIn sheet) marks

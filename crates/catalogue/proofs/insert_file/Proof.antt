@@ -1,13 +1,12 @@
 -- Invariant: the library is the one that the parts read so far leave. The measure is the number of turns that are left.
 -- Assumes nothing.
 use native.Mathlib.Omega.{arith}
-use mathlib.Core.Path.{refl, subst}
+use mathlib.Core.Path.{refl}
 use mathlib.Core.Option.{none}
 use borrow.Author.Needs.{needs}
 use Rattle.rows.specs.Library.{library}
-use Rattle.catalogue.specs.declared.Part.{Part}
-use Rattle.catalogue.specs.Files.{MoreRead, PartRead}
-use Rattle.catalogue.proofs.Laws.{start, more, rest}
+use Rattle.catalogue.specs.Files.{MoreRead}
+use Rattle.catalogue.proofs.Laws.{start, more, last, stopped, ended}
 use Rattle.catalogue.proofs.insert_file.Statement.{statement}
 use Rattle.catalogue.proofs.insert_file.Tie as tie
 
@@ -29,14 +28,28 @@ enum-known-part c = search needs
 enum-known-part-2 : tie.Need-enum-known-part-2 Inv-loop μ-loop
 enum-known-part-2 c = search needs
 
+read-on-requires : tie.Need-read-on-requires Inv-loop μ-loop
+read-on-requires c κs = search needs
+
+marks-answer-requires : tie.Need-marks-answer-requires Inv-loop μ-loop
+marks-answer-requires c κs = search needs
+
 returns : tie.Need-returns Inv-loop μ-loop
 returns c =
+    let a = c .before .before .before .before .before .before .before .before .before .before .before .before .before .args in
+    let l = c .before .before .before .before .before .before .before .before .before .before .before .before .loop in
+    ended (a .sheet) (library (a .keys .now) (a .ids .now) (a .xs .now) (a .ys .now) (a .zs .now) 0)
+    (last (a .sheet) (library (a .keys .now) (a .ids .now) (a .xs .now) (a .ys .now) (a .zs .now) 0) (l .inv) _ (c .before .before .before .before .before .insert-part .ensures) (c .before .before .before .part2 .given .0 .0) (c .before .before .before .part2 .given .1))
+    _ _ (c .marks-answer .result) (c .marks-answer .ensures)
+
+enum-known-part-3 : tie.Need-enum-known-part-3 Inv-loop μ-loop
+enum-known-part-3 c = search needs
+
+returns-2 : tie.Need-returns-2 Inv-loop μ-loop
+returns-2 c =
     let a = c .before .before .before .before .before .before .before .before .before .before .before .args in
     let l = c .before .before .before .before .before .before .before .before .before .before .loop in
-    let w = c .before .before .before .insert-part .last in
-    let now = library (l .keys) (l .ids) (l .xs) (l .ys) (l .zs) (l .used) in
-    rest (a .sheet) (library (a .keys .now) (a .ids .now) (a .xs .now) (a .ys .now) (a .zs .now) 0) (l .inv) (c .before .part2 .given .0 .0)
-    (subst (λ (p : Part). PartRead (a .sheet) now p (w .1 .1 .0) (w .1 .1 .1 .0) (w .1 .1 .1 .1 .0) (w .1 .1 .1 .1 .1 .0) (w .1 .1 .1 .1 .1 .1 .0)) (c .before .part2 .given .1) (c .before .before .before .insert-part .ensures))
+    stopped (a .sheet) (library (a .keys .now) (a .ids .now) (a .xs .now) (a .ys .now) (a .zs .now) 0) (l .inv) _ (c .before .before .before .insert-part .ensures) (c .before .part3 .given .0 .0) (c .before .part3 .given .1)
 
 sub-turns : tie.Need-sub-turns Inv-loop μ-loop
 sub-turns c = search needs
@@ -48,13 +61,10 @@ loop-again : tie.Need-loop-again Inv-loop μ-loop
 loop-again c =
     let a = c .before .before .before .before .before .before .before .before .before .before .before .args in
     let l = c .before .before .before .before .before .before .before .before .before .before .loop in
-    let w = c .before .before .before .insert-part .last in
-    let now = library (l .keys) (l .ids) (l .xs) (l .ys) (l .zs) (l .used) in
-    more (a .sheet) (library (a .keys .now) (a .ids .now) (a .xs .now) (a .ys .now) (a .zs .now) 0) (l .inv) (c .before .part .given .0 .0)
-    (subst (λ (p : Part). PartRead (a .sheet) now p (w .1 .1 .0) (w .1 .1 .1 .0) (w .1 .1 .1 .1 .0) (w .1 .1 .1 .1 .1 .0) (w .1 .1 .1 .1 .1 .1 .0)) (c .before .part .given .1) (c .before .before .before .insert-part .ensures))
+    more (a .sheet) (library (a .keys .now) (a .ids .now) (a .xs .now) (a .ys .now) (a .zs .now) 0) (l .inv) _ (c .before .before .before .insert-part .ensures) (c .before .part .given .0 .0) (c .before .part .given .1)
 
-returns-2 : tie.Need-returns-2 Inv-loop μ-loop
-returns-2 c = record { file = none; is = refl }
+returns-3 : tie.Need-returns-3 Inv-loop μ-loop
+returns-3 c = record { file = none; is = refl }
 
 pub insert-file-spec : {M : Type 1} → statement M
 insert-file-spec =
@@ -66,8 +76,12 @@ insert-file-spec =
     insert-part-requires
     enum-known-part
     enum-known-part-2
+    read-on-requires
+    marks-answer-requires
     returns
+    enum-known-part-3
+    returns-2
     sub-turns
     loop-less
     loop-again
-    returns-2)
+    returns-3)

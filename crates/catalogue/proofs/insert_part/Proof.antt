@@ -1,10 +1,8 @@
--- The bytes are those that were read: as many as the buffer holds are whole records.
+-- The bytes are those that were read.
 -- Assumes nothing.
-use native.Mathlib.Omega.{arith}
-use mathlib.Core.Path.{refl, sym}
-use mathlib.Core.Option.{none, some}
-use lib.ListN.{take}
 use borrow.Author.Needs.{needs}
+use Rattle.rows.specs.Library.{library}
+use Rattle.catalogue.proofs.Laws.{part}
 use Rattle.catalogue.proofs.insert_part.Statement.{statement}
 use Rattle.catalogue.proofs.insert_part.Tie as tie
 
@@ -26,31 +24,13 @@ slice-aggregate-insert-records c = search needs
 insert-records-requires : tie.Need-insert-records-requires
 insert-records-requires c κs = search needs
 
-enum-known-answer : tie.Need-enum-known-answer
-enum-known-answer c = search needs
-
-enum-told : tie.Need-enum-told
-enum-told c = search needs
+part-of-requires : tie.Need-part-of-requires
+part-of-requires c κs = search needs
 
 returns : tie.Need-returns
-returns c = record { file = some _; is = c .before .before .insert-records .ensures }
-
-returns-2 : tie.Need-returns-2
-returns-2 c =
-    record {
-      bytes = take (c .before .before .before .before .before .before .before .before .before .before .before .before .read-full .result) (c .before .before .before .before .before .before .before .before .before .before .before .before .read-full .last .1 .0);
-      whole = omega (arith, c .before .before .before .before .before .before .before .before .before .before .before .before .read-full .ensures .1, c .if1 .taken);
-      is = rw (sym (c .before .before .answer .given .1)) (c .before .before .before .before .insert-records .ensures);
-    }
-
-is-at-end-requires : tie.Need-is-at-end-requires
-is-at-end-requires c κs = search needs
-
-returns-3 : tie.Need-returns-3
-returns-3 c = record { file = some (take (c .before .before .before .before .before .before .before .before .before .before .before .before .before .before .read-full .result) (c .before .before .before .before .before .before .before .before .before .before .before .before .before .before .read-full .last .1 .0)); is = rw (sym (c .before .before .before .before .answer .given .1)) (c .before .before .before .before .before .before .insert-records .ensures) }
-
-returns-4 : tie.Need-returns-4
-returns-4 c = record { file = none; is = refl }
+returns c =
+    let a = c .before .before .before .before .before .before .before .before .before .before .before .before .args in
+    part (a .sheet) (library (a .keys .now) (a .ids .now) (a .xs .now) (a .ys .now) (a .zs .now) (a .used)) _ _ _ _ (c .part-of .result) (c .before .insert-records .ensures) (c .part-of .ensures)
 
 pub insert-part-spec : {M : Type 1} → statement M
 insert-part-spec =
@@ -62,10 +42,5 @@ insert-part-spec =
     array-share-prefix-bytes
     slice-aggregate-insert-records
     insert-records-requires
-    enum-known-answer
-    enum-told
-    returns
-    returns-2
-    is-at-end-requires
-    returns-3
-    returns-4)
+    part-of-requires
+    returns)

@@ -1,0 +1,43 @@
+-- What a program knows of a file once it is read: what opening it answered, the bytes that came, and what reading on after them
+-- answered. From these alone it is decided what the file holds.
+-- Assumes nothing.
+use Prim.Native.Nat.{ℕ}
+use mathlib.Core.Bool.{Bool, false, cond, _&&_}
+use mathlib.Core.Option.{Option, none, some}
+use mathlib.Core.List.{List}
+use lib.Dec.{ltb, eqb}
+use lib.IntN.{ℤ, pos, negsuc}
+use lib.ListN.{length}
+use lib.Signed.{nonNeg}
+use Rattle.basics.specs.Refusals.{Answer, refused, success}
+use Rattle.files.specs.declared.Part.{Part}
+use Rattle.files.specs.declared.Part.the-variants.{More, Last, Refused}
+
+-- reading on answers 0 at the end, the number of bytes where more follow, and a number below 0 where it fails
+unfoldable pub isEnd : ℤ → Bool
+isEnd (pos n) = eqb n 0
+isEnd (negsuc n) = false
+
+-- the bytes that came are all of the file: opening it answered no number below 0, and it ends after them
+unfoldable pub isWhole : ℤ → ℤ → Bool
+unfolding isEnd
+isWhole opened after = nonNeg opened && isEnd after
+
+-- what the file holds, where that is known
+unfoldable pub content : ℤ → List ℕ → ℤ → Option (List ℕ)
+unfolding isWhole
+content opened bytes after = cond (isWhole opened after) (some bytes) none
+
+-- what comes after a part of the marks that gave this answer. A part of fewer bytes than were asked for is the last.
+unfoldable pub partOf : ℕ → ℕ → Answer ℕ → Part
+partOf came asked (refused n) = Refused n
+partOf came asked (success rows) = cond (ltb came asked) (Last rows) (More rows)
+
+-- the answer to the whole file, where its marks were all taken: it has to be all of the file
+unfoldable pub marksAnswer : ℤ → ℤ → ℕ → Answer ℕ
+unfolding isWhole
+marksAnswer opened after rows = cond (isWhole opened after) (success rows) (refused 13)
+
+-- how much of a complaint is said: all of it where the text was not written whole, and else nothing
+unfoldable pub said : Bool → List ℕ → ℕ
+said written line = cond written 0 (length line)
