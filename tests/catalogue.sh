@@ -1,15 +1,14 @@
 #!/bin/sh
-# tests/catalogue.sh: runs the program `catalogue` on each case of tests/catalogue.cases and compares what it prints, byte
-# for byte. docs/STORED.md says where the cases come from.
+# tests/catalogue.sh: proves and builds the program `catalogue` where it is not that of the present files, runs it on each case
+# of tests/catalogue.cases and compares what it prints, byte for byte; a run may take 20 seconds. docs/STORED.md says where the
+# cases come from. Then it is run where its text cannot be written.
 set -eu
 cd "$(dirname "$0")/.."
 cases=$PWD/tests/catalogue.cases
 program=$PWD/target/bin/catalogue
-[ -x "$program" ] || {
-    said=$(rt check catalogue 2>&1) || {
-        echo "$said"
-        exit 1
-    }
+said=$(rt check catalogue 2>&1) || {
+    echo "$said"
+    exit 1
 }
 work=$(mktemp -d)
 trap 'rm -rf "$work"' EXIT
@@ -23,7 +22,7 @@ failed=0
 judge() {
     [ -n "$name" ] || return 0
     run=$((run + 1))
-    "$program" >../out 2>../err || echo "exit status $?" >>../err
+    timeout 20 "$program" >../out 2>../err || echo "exit status $?" >>../err
     if ! cmp -s ../out ../expected || [ -s ../err ]; then
         echo "catalogue: $name: expected, then printed:"
         cat ../expected ../out ../err
@@ -65,5 +64,21 @@ while IFS= read -r line; do
     esac
 done <"$cases"
 judge
+
+# What it says on standard error where nothing takes its text.
+unwritten() {
+    run=$((run + 1))
+    echo 'catalogue: the text could not be written whole' | cmp -s - ../err || {
+        echo "catalogue: $1: said on standard error:"
+        cat ../err
+        failed=$((failed + 1))
+    }
+}
+rm -rf sheet.bin marks.bin
+timeout 20 "$program" >/dev/full 2>../err || echo "exit status $?" >>../err
+unwritten 'no space is left'
+timeout 20 "$program" >&- 2>../err || echo "exit status $?" >>../err
+unwritten 'standard output is closed'
+
 echo "catalogue: $run cases, $failed differ"
 [ "$run" -gt 0 ] && [ "$failed" -eq 0 ]
