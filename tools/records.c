@@ -16,8 +16,9 @@
 enum { RECORD = 32, NUMBER = 8 };
 
 static const char usage[] =
-    "usage: ./records pack FOLDER    makes sheet.bin and marks.bin of the folder from its sheet.txt and marks.txt\n"
-    "       ./records pack           the same from standard input to standard output\n"
+    "usage: ./records pack FOLDER    makes sheet.bin and marks.bin of the folder from its sheet.txt and\n"
+    "                                marks.txt\n"
+    "       ./records pack           makes records from standard input on standard output\n"
     "       ./records show [FILE]    shows the records of a file, or of standard input, as such text\n"
     "\n"
     "Text has a line for each record, a number and three floats:\n"
@@ -30,9 +31,12 @@ static const char usage[] =
     "    3  3.5 2.5 0\n"
     "    7  2.00005 0.5 0\n"
     "\n"
-    "Lines that are empty or start with # are left out. A float may be inf, nan, or nan:7ff8000000000001, a NaN's bit pattern.\n"
-    "The last line may be `bytes 0a ff ..`, for bytes that are no whole record.\n"
-    "Status: 0, or 1 where something is wrong, which is said on standard error, or 2 for other arguments than these.\n";
+    "Lines that are empty or start with # are left out. A float may be inf, -inf, nan, or a NaN by its\n"
+    "bit pattern, nan:7ff8000000000001. The last line may be `bytes 0a ff ..`, for bytes that are no\n"
+    "whole record.\n"
+    "\n"
+    "Status: 0; 1 where something is wrong, which is said on standard error; 2 for other arguments than\n"
+    "these.\n";
 
 /* The bytes of a file. */
 struct bytes {
