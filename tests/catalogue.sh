@@ -4,6 +4,7 @@
 # cases come from. Then it is run where its text cannot be written.
 set -eu
 cd "$(dirname "$0")/.."
+exec 3>&1
 cases=$PWD/tests/catalogue.cases
 program=$PWD/target/bin/catalogue
 said=$(rt check catalogue 2>&1) || {
@@ -18,11 +19,25 @@ name=
 run=0
 failed=0
 
+# Runs the program. Where it takes too long, the test ends.
+limited() {
+    status=0
+    timeout 20 "$program" || status=$?
+    case $status in
+    0) ;;
+    124)
+        echo "catalogue: $name: no end within 20 seconds" >&3
+        exit 1
+        ;;
+    *) echo "exit status $status" >&2 ;;
+    esac
+}
+
 # Judges the case that was read.
 judge() {
     [ -n "$name" ] || return 0
     run=$((run + 1))
-    timeout 20 "$program" >../out 2>../err || echo "exit status $?" >>../err
+    limited >../out 2>../err
     if ! cmp -s ../out ../expected || [ -s ../err ]; then
         echo "catalogue: $name: expected, then printed:"
         cat ../expected ../out ../err
@@ -65,20 +80,21 @@ while IFS= read -r line; do
 done <"$cases"
 judge
 
-# What it says on standard error where nothing takes its text.
+# What it said on standard error where nothing took its text.
 unwritten() {
     run=$((run + 1))
     echo 'catalogue: the text could not be written whole' | cmp -s - ../err || {
-        echo "catalogue: $1: said on standard error:"
+        echo "catalogue: $name: said on standard error:"
         cat ../err
         failed=$((failed + 1))
     }
 }
-rm -rf sheet.bin marks.bin
-timeout 20 "$program" >/dev/full 2>../err || echo "exit status $?" >>../err
-unwritten 'no space is left'
-timeout 20 "$program" >&- 2>../err || echo "exit status $?" >>../err
-unwritten 'standard output is closed'
+name='no space for the text'
+limited >/dev/full 2>../err
+unwritten
+name='standard output is closed'
+limited >&- 2>../err
+unwritten
 
 echo "catalogue: $run cases, $failed differ"
 [ "$run" -gt 0 ] && [ "$failed" -eq 0 ]
