@@ -104,5 +104,9 @@ tell 'CDPATH and a folder' 0 "$sample" 'rt: floats' env PATH="$work/kit:$PATH" C
 tell 'all that is said where a proof fails' 1 nothing 'fn floats::sqrt: proved' env PATH="$work/kit:$PATH" copy1/run
 tell 'that a proof failed' 1 nothing 'run: the catalogue is not proved' env PATH="$work/kit:$PATH" copy1/run
 
+rm copy0/target/bin/catalogue
+tell 'that minutes of proving start' 1 nothing 'run: proving the catalogue' env PATH="$work/kit:$PATH" copy0/run
+tell 'that there is no program' 1 nothing 'run: rt built no target/bin/catalogue' env PATH="$work/kit:$PATH" copy0/run
+
 echo "run: $tried calls, $failed wrong"
 [ "$failed" -eq 0 ]
