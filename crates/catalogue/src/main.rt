@@ -18,7 +18,7 @@ use libc::STDERR_FILENO;
 use libc::STDOUT_FILENO;
 use rows::Inserted;
 
-// What reading on answers, after all that was asked for was read.
+// What reading on answers.
 fn read_on(fd: i32) -> isize {
     let mut byte = [0u8; 1];
     libc::read(fd, &mut byte)
@@ -52,7 +52,7 @@ fn insert_part(
     let mut bytes = io::large_buffer();
     let n = io::read_full(fd, &mut bytes);
     let answer = loading::insert_records(sheet, keys, ids, xs, ys, zs, used, &bytes[..n]);
-    files::part_of(n, 65536, answer)
+    files::part_of(n, bytes.len(), answer)
 }
 
 // Inserts the marks of a file. A proved loop has to end, and nothing says that a file does: so the loop counts its turns

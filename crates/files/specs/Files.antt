@@ -23,7 +23,7 @@ unfoldable pub isWhole : ℤ → ℤ → Bool
 unfolding isEnd
 isWhole opened after = nonNeg opened && isEnd after
 
--- what the file holds, where that is known
+-- what the file holds; none: it is missing, cannot be read, or does not end where it has to
 unfoldable pub content : ℤ → List ℕ → ℤ → Option (List ℕ)
 unfolding isWhole
 content opened bytes after = cond (isWhole opened after) (some bytes) none
@@ -33,7 +33,7 @@ unfoldable pub partOf : ℕ → ℕ → Answer ℕ → Part
 partOf came asked (refused n) = Refused n
 partOf came asked (success rows) = cond (ltb came asked) (Last rows) (More rows)
 
--- the answer to the whole file, where its marks were all taken: it has to be all of the file
+-- the answer to a file whose marks were all taken: they have to be all of the file
 unfoldable pub marksAnswer : ℤ → ℤ → ℕ → Answer ℕ
 unfolding isWhole
 marksAnswer opened after rows = cond (isWhole opened after) (success rows) (refused 13)

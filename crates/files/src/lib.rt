@@ -12,7 +12,7 @@ use grid_search::Made;
 use rows::Inserted;
 
 // What comes after a part of the marks: more of them, with this number of rows in use; the end of the file, likewise; or nothing,
-// since a mark was turned away.
+// since a mark was turned away or bytes are left over.
 pub enum Part {
     More(usize),
     Last(usize),
@@ -36,7 +36,7 @@ pub fn sheet_of_file(opened: i32, bytes: &[u8], after: isize) -> Made
     loading::sheet_of_records(bytes)
 }
 
-// What comes after a part of the marks, of which `came` bytes were inserted with this answer and `asked` were asked for.
+// What comes after a part of the marks that was inserted with this answer: `came` bytes, of `asked` that were asked for.
 pub fn part_of(came: usize, asked: usize, answer: Inserted) -> Part
     ensures { λ r. ⌜ r ≡ partOf came asked (inserted answer) ⌝ }
 {
@@ -52,7 +52,7 @@ pub fn part_of(came: usize, asked: usize, answer: Inserted) -> Part
     }
 }
 
-// The answer to a file of marks that were all taken, and that left this number of rows in use: 13 where they are not all of it.
+// The answer to a file whose marks were all taken and left this number of rows in use: 13 where they are not all of the file.
 pub fn marks_answer(opened: i32, after: isize, rows: usize) -> Inserted
     ensures { λ r. ⌜ inserted r ≡ marksAnswer opened after rows ⌝ }
 {
@@ -62,7 +62,7 @@ pub fn marks_answer(opened: i32, after: isize, rows: usize) -> Inserted
     Inserted::Stored(rows)
 }
 
-// How many bytes of a complaint are said, where a text was written whole, or was not.
+// How many bytes of a complaint are said: all of them where a text was not written whole, and else none.
 pub fn said_of(written: bool, line: &[u8]) -> usize
     ensures { λ r. ⌜ (r ≤ length (now (line .entry))) × (r ≡ length (take r (now (line .entry)))) ⌝ }
     ensures { λ r. ⌜ r ≡ said written (now (line .entry)) ⌝ }
