@@ -64,8 +64,8 @@ pub fn marks_answer(opened: i32, after: isize, rows: usize) -> Inserted
 
 // How many bytes of a complaint are said: all of them where a text was not written whole, and else none.
 pub fn said_of(written: bool, line: &[u8]) -> usize
-    ensures { λ r. ⌜ (r ≤ length (now (line .entry))) × (r ≡ length (take r (now (line .entry)))) ⌝ }
     ensures { λ r. ⌜ r ≡ said written (now (line .entry)) ⌝ }
+    ensures { λ r. ⌜ (r ≤ length (now (line .entry))) × (r ≡ length (take r (now (line .entry)))) ⌝ }
 {
     if written { 0 } else { line.len() }
 }

@@ -18,13 +18,13 @@ returns : tie.Need-returns
 unfolding said
 returns c =
     let line = c .before .args .line .now in
-    (counts 0 line (omega arith), ap (λ (b : Bool). cond b 0 (length line)) (sym (c .if1 .taken)))
+    (ap (λ (b : Bool). cond b 0 (length line)) (sym (c .if1 .taken)), counts 0 line (omega arith))
 
 returns-2 : tie.Need-returns-2
 unfolding said
 returns-2 c =
     let line = c .before .args .line .now in
-    (counts (length line) line (omega arith), ap (λ (b : Bool). cond b 0 (length line)) (sym (c .if1 .left)))
+    (ap (λ (b : Bool). cond b 0 (length line)) (sym (c .if1 .left)), counts (length line) line (omega arith))
 
 pub said-of-spec : {M : Type 1} → statement M
 said-of-spec = tie.close (tie.spec returns returns-2)
