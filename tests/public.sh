@@ -122,6 +122,7 @@ asks_nothing search search
 asks_nothing listing search_on search_on_place
 asks_nothing listing search_on_line search_on_circle search_on_cylinder
 asks_nothing listing search_on_plane_xy search_on_plane_yz search_on_plane_xz
+asks_nothing files sheet_of_file part_of marks_answer said_of
 asks_nothing grid_cells new
 asks_nothing cell_search search
 asks_nothing mesh_view new count corner grid_cells search build
