@@ -38,9 +38,14 @@ from a b = zipWith (λ (y x : Float). y ⊖ x) b a
 
 -- ---- the distances
 
+-- the square of the distance between two points: d ⋅ d, with d = b - a
+unfoldable pub pointSquare : List Float → List Float → Float
+unfolding dot from
+pointSquare a b = let d = from a b in dot d d
+
 unfoldable pub pointPoint : List Float → List Float → Float
-unfolding sqrtOf dot from
-pointPoint a b = let d = from a b in sqrtOf (dot d d)
+unfolding sqrtOf pointSquare
+pointPoint a b = sqrtOf (pointSquare a b)
 
 -- the ends of a line are too close: n ⋅ n, with n = b - a, is at most 2 ^ -52
 unfoldable pub tooClose : List Float → List Float → Bool
@@ -56,16 +61,20 @@ unfoldable pub lineOf : ℕ → Position → Position → Line
 unfolding dot from
 lineOf ndim a b = let n = from (coords ndim a) (coords ndim b) in record { a = a; n = less a b; «n_dot_n» = dot n n }
 
--- q = x - n * (x ⋅ n) / (n ⋅ n), with x = c - a and n = b - a; the product comes first, then the quotient
-unfoldable pub pointLine : List Float → List Float → List Float → Float
-unfolding sqrtOf dot from zipWith
-pointLine a b c =
+-- the square of the distance of c from the line through a and b: q ⋅ q, with q = x - n * (x ⋅ n) / (n ⋅ n), x = c - a and n = b - a; the product comes first, then the quotient
+unfoldable pub lineSquare : List Float → List Float → List Float → Float
+unfolding dot from zipWith
+lineSquare a b c =
     let n = from a b in
     let x = from a c in
     let nn = dot n n in
     let xn = dot x n in
     let q = zipWith (λ (xi ni : Float). xi ⊖ ni ⊗ xn ⊘ nn) x n in
-    sqrtOf (dot q q)
+    dot q q
+
+unfoldable pub pointLine : List Float → List Float → List Float → Float
+unfolding sqrtOf lineSquare
+pointLine a b c = sqrtOf (lineSquare a b c)
 
 -- signed: negative inside, 0 on the curve
 unfoldable pub pointCircle : List Float → Float → List Float → Float

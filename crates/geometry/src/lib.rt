@@ -1,7 +1,7 @@
 // Modules 2 and 9: distances between points, lines, circles and cylinders, and the coordinates of a point in a
 // triangle or a tetrahedron. Names, operations and their order are those of gemlab's `geometry/algorithms.rs`,
 // `triangle.rs` and `tetrahedron.rs`.
-ghost use Prim.Native.Nat.{ℕ};
+ghost use Prim.Native.Nat.{ℕ, _^_};
 ghost use mathlib.Core.Path.{_≡_};
 ghost use mathlib.Core.Bool.{true};
 ghost use mathlib.Core.List.{[], _∷_};
@@ -10,9 +10,8 @@ ghost use lib.ListN.{getD};
 ghost use Rattle.basics.specs.Lists.{all};
 ghost use Rattle.basics.specs.Refusals.{refuse, fault, answer, through};
 ghost use Rattle.floats.specs.Rounded.{_⊖_, zeroF};
-ghost use Rattle.floats.specs.Sqrt.{sqrtOf};
-ghost use Rattle.geometry.specs.Position.{coords, positionOf, axisOf, dimension, coordinate};
-ghost use Rattle.geometry.specs.Distances.{less, lineOf, dot as dotOf, pointPoint, tooClose, pointLine};
+ghost use Rattle.geometry.specs.Position.{coords, positionOf, axisOf, dimension, coordinate, everyAxis, someAxis};
+ghost use Rattle.geometry.specs.Distances.{less, lineOf, dot as dotOf, pointSquare, pointPoint, tooClose, lineSquare, pointLine};
 ghost use Rattle.geometry.specs.Distances.{measured, pointPointAnswer, pointLineAnswer, pointCircleAnswer, pointCylinderAnswer};
 ghost use Rattle.geometry.specs.Cells.{zetas, triangleCoords, tetrahedronCoords, inside};
 
@@ -76,6 +75,21 @@ impl Position {
             self.z
         }
     }
+
+    // The position with +0 on an axis that is not in use.
+    pub fn in_use(self, ndim: usize) -> Position
+        requires { ⌜ dimension ndim ≡ true ⌝ }
+        ensures { λ r. ⌜ r ≡ positionOf (coords ndim self) ⌝ }
+    {
+        if ndim == 2 {
+            return Position {
+                x: self.x,
+                y: self.y,
+                z: 0.0,
+            };
+        }
+        self
+    }
 }
 
 // Whether there are 2 or 3 axes.
@@ -83,6 +97,30 @@ pub fn is_dimension(ndim: usize) -> bool
     ensures { λ r. ⌜ r ≡ dimension ndim ⌝ }
 {
     (ndim == 2) | (ndim == 3)
+}
+
+// Whether a test is passed along every axis in use, where these are its answers along x, y and z.
+pub fn on_every_axis(ndim: usize, x: bool, y: bool, z: bool) -> bool
+    requires { ⌜ dimension ndim ≡ true ⌝ }
+    ensures { λ r. ⌜ r ≡ everyAxis ndim x y z ⌝ }
+{
+    x & (y & ((ndim == 2) | z))
+}
+
+// Whether it is passed along some axis in use.
+pub fn on_some_axis(ndim: usize, x: bool, y: bool, z: bool) -> bool
+    requires { ⌜ dimension ndim ≡ true ⌝ }
+    ensures { λ r. ⌜ r ≡ someAxis ndim x y z ⌝ }
+{
+    x | (y | ((ndim != 2) & z))
+}
+
+// How many corners a square or a cube has.
+pub fn corner_count(ndim: usize) -> usize
+    requires { ⌜ dimension ndim ≡ true ⌝ }
+    ensures { λ r. ⌜ r ≡ 2 ^ ndim ⌝ }
+{
+    if ndim == 2 { 4 } else { 8 }
 }
 
 // Whether x may be a coordinate or a radius: finite, of magnitude at most 2^20.
@@ -111,7 +149,12 @@ pub fn position_ok(ndim: usize, p: Position) -> bool
     requires { ⌜ dimension ndim ≡ true ⌝ }
     ensures { λ r. ⌜ r ≡ all coordinate (coords ndim p) ⌝ }
 {
-    is_coordinate(p.x) & (is_coordinate(p.y) & ((ndim == 2) | is_coordinate(p.z)))
+    on_every_axis(
+        ndim,
+        is_coordinate(p.x),
+        is_coordinate(p.y),
+        is_coordinate(p.z),
+    )
 }
 
 // b - a
@@ -125,7 +168,7 @@ fn difference(a: Position, b: Position) -> Position
     }
 }
 
-// u ⋅ v
+// u ⋅ v, from the left. In 2D there is no third term, as in gemlab: a sum of -0 would lose its sign to +0.
 fn dot(ndim: usize, u: Position, v: Position) -> f64
     requires { ⌜ dimension ndim ≡ true ⌝ }
     ensures { λ r. ⌜ r ≡ dotOf (coords ndim u) (coords ndim v) ⌝ }
@@ -140,7 +183,7 @@ fn dot(ndim: usize, u: Position, v: Position) -> f64
 // The square of the distance between two points.
 pub fn point_square(ndim: usize, a: Position, b: Position) -> f64
     requires { ⌜ dimension ndim ≡ true ⌝ }
-    ensures { λ r. ⌜ sqrtOf r ≡ pointPoint (coords ndim a) (coords ndim b) ⌝ }
+    ensures { λ r. ⌜ r ≡ pointSquare (coords ndim a) (coords ndim b) ⌝ }
 {
     let d = difference(a, b);
     dot(ndim, d, d)
@@ -157,7 +200,7 @@ pub fn point_point(ndim: usize, a: Position, b: Position) -> f64
 // The square of the distance of a point from a line.
 pub fn line_square(ndim: usize, line: Line, c: Position) -> f64
     requires { ⌜ dimension ndim ≡ true ⌝ }
-    ensures { λ r. ⌜ ((a b : Position) → line ≡ lineOf ndim a b → sqrtOf r ≡ pointLine (coords ndim a) (coords ndim b) (coords ndim c)) ⌝ }
+    ensures { λ r. ⌜ ((a b : Position) → line ≡ lineOf ndim a b → r ≡ lineSquare (coords ndim a) (coords ndim b) (coords ndim c)) ⌝ }
 {
     let n = line.n;
     let n_dot_n = line.n_dot_n;

@@ -1,26 +1,20 @@
--- The Rust's formulas for a key and for its indices, which have a term or a quotient for each axis, are the recursive ones; and where a position falls, by its ratios. Assumes nothing.
-use Prim.Native.Nat.{ℕ, _+_, _*_, _/_, _%_, _≤_, _<_}
+-- The Rust's formulas for a key and for its indices, which have a term or a quotient for each axis, are the recursive ones; and a position is outside where it is along some axis. Assumes nothing.
+use Prim.Native.Nat.{ℕ, zero, suc, _+_, _*_, _/_, _%_, _<_}
 use native.Mathlib.Nat.{mul-zero, add-zero, mul-one, mul-comm, mul-assoc, mul-add, mul-pos, mod-lt, mod-eq-of-lt, div-eq-of-lt, div-div-eq-div-mul, div-lt-iff-lt-mul, mod-add-div, add-mul-mod-self-left, add-mul-div-left, zero-add}
 use native.Mathlib.Omega.{arith}
-use mathlib.Core.Path.{_≡_, sym, ap, _∙_, subst}
-use mathlib.Core.Bool.{true, false}
+use mathlib.Core.Path.{_≡_, refl, sym, ap, _∙_, subst}
+use mathlib.Core.Bool.{Bool, _||_}
 use mathlib.Core.List.{List, [], _∷_}
-use lib.Dec.{ltb}
-use lib.Ieee.{Float}
-use borrow.Author.Tests.{lt-ltb, le-ltb}
-use Rattle.basics.specs.Lists.{zipWith}
-use Rattle.grid.specs.declared.Located.the-variants.{Key, Exceeds}
-use Rattle.grid.specs.Containers.{ratios, exceed, inner, combine, keyOf, located, containers}
+use lib.ListN.{take}
+use lib.Ieee.{Float, lt}
+use Rattle.basics.specs.Lists.{any}
+use Rattle.grid.specs.Containers.{outside, combine, containers}
 use Rattle.grid.specs.Keys.{digit}
 
 -- ---- keys
-pub two-axes : (n0 n1 i j : ℕ) → i + j * n0 ≡ combine (n0 ∷ n1 ∷ []) (i ∷ j ∷ [])
+pub key-is : (n0 n1 n2 i j k : ℕ) → i + j * n0 + k * n0 * n1 ≡ combine (n0 ∷ n1 ∷ n2 ∷ []) (i ∷ j ∷ k ∷ [])
 unfolding combine
-two-axes n0 n1 i j = rw (mul-zero, add-zero) (ap (λ (x : ℕ). i + x) (mul-comm j n0))
-
-pub three-axes : (n0 n1 n2 i j k : ℕ) → i + j * n0 + k * n0 * n1 ≡ combine (n0 ∷ n1 ∷ n2 ∷ []) (i ∷ j ∷ k ∷ [])
-unfolding combine
-three-axes n0 n1 n2 i j k = rw (mul-zero, add-zero)
+key-is n0 n1 n2 i j k = rw (mul-zero, add-zero)
     (omega (arith, mul-comm j n0, mul-add n0 j (n1 * k), mul-assoc n0 n1 k, mul-assoc k n0 n1, mul-comm k (n0 * n1)))
 
 -- ---- indices
@@ -46,19 +40,18 @@ third-index x y z key X Y h =
     turned : (x y z : ℕ) → x * (y * (z * 1)) ≡ z * (x * y)
     turned x y z = rw mul-one (sym (mul-assoc x y z) ∙ mul-comm (x * y) z)
 
--- ---- where a position falls
-module _ (ns : List ℕ) (side : Float) (xmin x : List Float) where
-  pub exceeds : exceed ns (ratios side xmin x) ≡ true → Exceeds ≡ located ns side xmin x
-  unfolding located
-  exceeds h = rw h
+-- ---- outside, by the test along each axis
+-- whether each coordinate lies below the low end or above the high one
+abbrev pub beyonds : List Float → List Float → List Float → List Bool
+beyonds (a ∷ los) (b ∷ his) (x ∷ xs) = (lt x a || lt b x) ∷ beyonds los his xs
+beyonds [] his xs = []
+beyonds (a ∷ los) [] xs = []
+beyonds (a ∷ los) (b ∷ his) [] = []
 
-  pub falls : (rs is : List ℕ) (key : ℕ) → rs ≡ ratios side xmin x → exceed ns rs ≡ false → is ≡ zipWith inner ns rs → key ≡ combine ns is → Key (record { 0 = key }) ≡ located ns side xmin x
-  unfolding located keyOf
-  falls rs is key r h i k = rw (← r, h, k, i)
-
--- a ratio above its divisions, and one that is not
-pub over : (n r t : ℕ) → r ≡ t → n < r → ltb n t ≡ true
-over n r t e h = lt-ltb n t (omega arith)
-
-pub under : (n r t : ℕ) → r ≡ t → r ≤ n → ltb n t ≡ false
-under n r t e h = le-ltb n t (omega arith)
+pub outside-tests : (n : ℕ) (los his xs : List Float) → outside (take n los) (take n his) (take n xs) ≡ any (λ (b : Bool). b) (take n (beyonds los his xs))
+unfolding outside any
+outside-tests zero los his xs = refl
+outside-tests (suc n) (a ∷ los) (b ∷ his) (x ∷ xs) = rw (outside-tests n los his xs)
+outside-tests (suc n) [] his xs = refl
+outside-tests (suc n) (a ∷ los) [] xs = refl
+outside-tests (suc n) (a ∷ los) (b ∷ his) [] = refl

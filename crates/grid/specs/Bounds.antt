@@ -34,36 +34,16 @@ pub rest-of : (n : ℕ) (ns : List ℕ) → all division (n ∷ ns) ≡ true →
 unfolding all
 rest-of n ns h = and-right (division n) (all division ns) h
 
--- the divisions along the axes in use
-pub record Bounds (n : ℕ) (d : Divisions) : Type 0 where
+-- divisions along three axes
+pub record Bounds (d : Divisions) : Type 0 where
   pub x : InRange (d .x)
   pub y : InRange (d .y)
-  pub z : n ≡ 3 → InRange (d .z)
+  pub z : InRange (d .z)
 
-pub bounds : (n : ℕ) (d : Divisions) → dimension n ≡ true → all division (counts n d) ≡ true → Bounds n d
-bounds n d h k = go (two-or-three n h)
-  where
-    go : (n ≡ 2) ⊎ (n ≡ 3) → Bounds n d
-    go (inl e) =
-        let a = rw e at k in
-        record { x = first-of (d .x) (d .y ∷ []) a; y = first-of (d .y) [] (rest-of (d .x) (d .y ∷ []) a); z = λ t. absurd (omega arith) }
-    go (inr e) =
-        let a = rw e at k in
-        let b = rest-of (d .x) (d .y ∷ d .z ∷ []) a in
-        record { x = first-of (d .x) (d .y ∷ d .z ∷ []) a; y = first-of (d .y) (d .z ∷ []) b; z = λ t. first-of (d .z) [] (rest-of (d .y) (d .z ∷ []) b) }
-
--- the indices along the axes in use
-pub record Inside (n : ℕ) (d : Divisions) (p : Pivot) : Type 0 where
-  pub i : p .i < d .x
-  pub j : p .j < d .y
-  pub k : n ≡ 3 → p .k < d .z
-
-pub inside : (n : ℕ) (d : Divisions) (p : Pivot) → dimension n ≡ true → Below (counts n d) (indices n p) → Inside n d p
-inside n d p h b = go (two-or-three n h)
-  where
-    go : (n ≡ 2) ⊎ (n ≡ 3) → Inside n d p
-    go (inl e) = let a = rw e at b in record { i = a .0; j = a .1 .0; k = λ t. absurd (omega arith) }
-    go (inr e) = let a = rw e at b in record { i = a .0; j = a .1 .0; k = λ t. a .1 .1 .0 }
+pub bounds : (d : Divisions) → all division (counts 3 d) ≡ true → Bounds d
+bounds d h =
+    let k = rest-of (d .x) (d .y ∷ d .z ∷ []) h in
+    record { x = first-of (d .x) (d .y ∷ d .z ∷ []) h; y = first-of (d .y) (d .z ∷ []) k; z = first-of (d .z) [] (rest-of (d .y) (d .z ∷ []) k) }
 
 -- products of two and of three
 pub two-small : {a b : ℕ} → a ≤ 1024 → b ≤ 1024 → a * b ≤ 1048576

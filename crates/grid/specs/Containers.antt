@@ -4,7 +4,7 @@ use Prim.Native.Nat.{ℕ, _+_, _-_, _*_, _/_, _%_}
 use mathlib.Core.Bool.{Bool, false, cond, _||_}
 use mathlib.Core.List.{List, [], _∷_}
 use lib.Dec.{ltb, eqb}
-use lib.ListN.{take}
+use lib.ListN.{take, getD}
 use lib.Ieee.{Float, lt}
 use Rattle.basics.specs.Lists.{zipWith}
 use Rattle.floats.specs.Rounded.{_⊕_, _⊖_, _⊗_, _⊘_, ofNat, truncate, pow2}
@@ -58,6 +58,10 @@ containers (n ∷ ns) = n * containers ns
 -- the indices along the first n axes
 abbrev pub indices : ℕ → Pivot → List ℕ
 indices n p = take n (p .i ∷ p .j ∷ p .k ∷ [])
+
+-- the record with these indices: along an axis that the list lacks, 0
+abbrev pub pivotOf : List ℕ → Pivot
+pivotOf l = record { i = getD l 0 0; j = getD l 1 0; k = getD l 2 0 }
 
 -- the indices of a key: of the container's lower corner
 unfoldable pub pivots : List ℕ → ℕ → List ℕ

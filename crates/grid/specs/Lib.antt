@@ -4,4 +4,5 @@ pub mod Containers
 -- Laws of these, for the proofs here and in the layers above.
 pub mod Keys
 pub mod Bounds
+pub mod InUse
 pub mod Shares

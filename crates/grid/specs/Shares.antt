@@ -1,13 +1,12 @@
 -- Laws of divisions, over any number of axes: where no length is negative, each axis has from 1 division to the full number; there are as many divisions as axes.
 -- Assumes nothing.
-use Prim.Native.Nat.{ℕ, suc, _^_, _≤_, max}
+use Prim.Native.Nat.{ℕ, zero, suc, _^_, _≤_, max}
 use native.Mathlib.Omega.{arith}
 use mathlib.Core.Path.{_≡_, refl, ap, _∙_}
-use mathlib.Core.Logic.{_⊎_, inl, inr}
 use mathlib.Core.Bool.{Bool, true, false, not, _&&_, false≢true}
 use mathlib.Core.List.{List, [], _∷_}
 use lib.Dec.{leb, eqb}
-use lib.ListN.{length}
+use lib.ListN.{length, take}
 use lib.Ieee.{Float, nan, inf, fin, lt, le, isNan}
 use borrow.Author.Tests.{le-leb}
 use Rattle.basics.specs.Bools.{by-test, both, and-both}
@@ -16,7 +15,7 @@ use Rattle.floats.specs.Rounded.{_⊖_, _⊗_, _⊘_, ofNat, truncate}
 use Rattle.floats.specs.Order.{lt-is-not-le, not-lt-le, lt-le, le-self, le-join}
 use Rattle.floats.specs.Upto.{unsigned, share-upto}
 use Rattle.geometry.specs.Position.{dimension}
-use Rattle.geometry.specs.Axes.{two-or-three}
+use Rattle.geometry.specs.Axes.{entries-of}
 use Rattle.geometry.specs.Distances.{from}
 use Rattle.grid.specs.declared.Longest.{Longest}
 use Rattle.grid.specs.Divisions.{counts, divisionsOf, longer, longestFrom, longest, share, shares, numDivisions}
@@ -110,14 +109,13 @@ divisions-length number xmin xmax e = shares-length number (longest (from xmin x
     go (y ∷ ys) [] e = absurd (omega arith)
     go (y ∷ ys) (x ∷ xs) e = ap suc (go ys xs (omega arith))
 
+-- ---- those of the first n lengths
+pub take-shares : (number : ℕ) (best : Longest) (n i : ℕ) (ds : List Float) → take n (shares number best i ds) ≡ shares number best i (take n ds)
+unfolding shares
+take-shares number best zero i ds = refl
+take-shares number best (suc n) i [] = refl
+take-shares number best (suc n) i (d ∷ ds) = rw (take-shares number best n (suc i) ds)
+
 -- ---- a record made from a list of divisions has these divisions
 pub counts-of : (n : ℕ) (ns : List ℕ) → dimension n ≡ true → length ns ≡ n → counts n (divisionsOf ns) ≡ ns
-counts-of n ns h e = rw (← e) (go ns (two-or-three (length ns) (rw e h)))
-  where
-    go : (l : List ℕ) → (length l ≡ 2) ⊎ (length l ≡ 3) → counts (length l) (divisionsOf l) ≡ l
-    go [] e = refl
-    go (x ∷ []) e = refl
-    go (x ∷ y ∷ []) e = refl
-    go (x ∷ y ∷ z ∷ []) e = refl
-    go (x ∷ y ∷ z ∷ w ∷ l) (inl e) = absurd (omega arith)
-    go (x ∷ y ∷ z ∷ w ∷ l) (inr e) = absurd (omega arith)
+counts-of n ns h e = entries-of 1 n ns h e

@@ -8,7 +8,7 @@ ghost use Rattle.basics.specs.Lists.{all};
 ghost use Rattle.floats.specs.Rounded.{_⊕_, _⊖_, _⊗_, _⊘_, ofNat, truncate, pow2};
 ghost use Rattle.geometry.specs.Position.{coords, positionOf, dimension};
 ghost use Rattle.grid.specs.Divisions.{counts, divisionsOf, division, longer as longerOf, longest as longestOf, share as shareOf, numDivisions};
-ghost use Rattle.grid.specs.Containers.{outside, inner as innerOf, combine, located, containers, indices, pivots, centre};
+ghost use Rattle.grid.specs.Containers.{outside, ratios as ratiosOf, inner as innerOf, combine, located, containers, indices, pivotOf, pivots, centre};
 ghost use Rattle.grid.specs.Keys.{Below};
 use geometry::Position;
 
@@ -34,11 +34,45 @@ pub enum Located {
     Exceeds,
 }
 
-// The indices of a container along each axis.
+// The indices of a container along each axis: 0 along the third in 2D.
 pub struct Pivot {
     pub i: u64,
     pub j: u64,
     pub k: u64,
+}
+
+impl Divisions {
+    // The divisions with 1 along an axis that is not in use.
+    pub fn in_use(self, ndim: usize) -> Divisions
+        requires { ⌜ dimension ndim ≡ true ⌝ }
+        ensures { λ r. ⌜ r ≡ divisionsOf (counts ndim self) ⌝ }
+    {
+        if ndim == 2 {
+            return Divisions {
+                x: self.x,
+                y: self.y,
+                z: 1,
+            };
+        }
+        self
+    }
+}
+
+impl Pivot {
+    // The indices with 0 along an axis that is not in use.
+    fn in_use(self, ndim: usize) -> Pivot
+        requires { ⌜ dimension ndim ≡ true ⌝ }
+        ensures { λ r. ⌜ r ≡ pivotOf (indices ndim self) ⌝ }
+    {
+        if ndim == 2 {
+            return Pivot {
+                i: self.i,
+                j: self.j,
+                k: 0,
+            };
+        }
+        self
+    }
 }
 
 // Whether there are from 1 to 1,024 divisions.
@@ -53,7 +87,12 @@ pub fn divisions_ok(ndim: usize, ndiv: Divisions) -> bool
     requires { ⌜ dimension ndim ≡ true ⌝ }
     ensures { λ r. ⌜ r ≡ all division (counts ndim ndiv) ⌝ }
 {
-    is_division(ndiv.x) & (is_division(ndiv.y) & ((ndim == 2) | is_division(ndiv.z)))
+    geometry::on_every_axis(
+        ndim,
+        is_division(ndiv.x),
+        is_division(ndiv.y),
+        is_division(ndiv.z),
+    )
 }
 
 // The longest axis so far, or this one where it is longer.
@@ -72,15 +111,16 @@ fn longest_axis(ndim: usize, delta: Position) -> Longest
     requires { ⌜ dimension ndim ≡ true ⌝ }
     ensures { λ r. ⌜ r ≡ longestOf (coords ndim delta) ⌝ }
 {
-    let first = Longest {
+    let mut best = Longest {
         axis: 0,
         delta: delta.x,
     };
-    let best = longer(first, 1, delta.y);
-    if ndim == 2 {
-        return best;
+    let mut i = 1;
+    while i < ndim {
+        best = longer(best, i, delta.axis(i));
+        i += 1;
     }
-    longer(best, 2, delta.z)
+    best
 }
 
 // The divisions along an axis: all along the longest, and as many as its length allows along another, but 1 at least.
@@ -109,13 +149,12 @@ pub fn num_divisions(ndim: usize, ndiv_long: u64, xmin: Position, xmax: Position
         z: xmax.z - xmin.z,
     };
     let long = longest_axis(ndim, delta);
-    let x = share(ndiv_long, long, 0, delta.x);
-    let y = share(ndiv_long, long, 1, delta.y);
-    if ndim == 2 {
-        return Divisions { x, y, z: 1 };
-    }
-    let z = share(ndiv_long, long, 2, delta.z);
-    Divisions { x, y, z }
+    let ndiv = Divisions {
+        x: share(ndiv_long, long, 0, delta.x),
+        y: share(ndiv_long, long, 1, delta.y),
+        z: share(ndiv_long, long, 2, delta.z),
+    };
+    ndiv.in_use(ndim)
 }
 
 // Whether x lies below the low end or above the high one.
@@ -133,16 +172,12 @@ pub fn is_outside(ndim: usize, xmin: Position, xmax: Position, x: Position) -> b
     requires { ⌜ dimension ndim ≡ true ⌝ }
     ensures { λ r. ⌜ r ≡ outside (coords ndim xmin) (coords ndim xmax) (coords ndim x) ⌝ }
 {
-    if is_beyond(xmin.x, xmax.x, x.x) {
-        return true;
-    }
-    if is_beyond(xmin.y, xmax.y, x.y) {
-        return true;
-    }
-    if ndim == 2 {
-        return false;
-    }
-    is_beyond(xmin.z, xmax.z, x.z)
+    geometry::on_some_axis(
+        ndim,
+        is_beyond(xmin.x, xmax.x, x.x),
+        is_beyond(xmin.y, xmax.y, x.y),
+        is_beyond(xmin.z, xmax.z, x.z),
+    )
 }
 
 // How many whole sides x lies above the low end.
@@ -150,6 +185,19 @@ fn ratio(side_length: f64, xmin: f64, x: f64) -> u64
     ensures { λ r. ⌜ r ≡ truncate ((x ⊖ xmin) ⊘ «side_length») ⌝ }
 {
     floats::truncated((x - xmin) / side_length)
+}
+
+// The ratio along each axis, and 0 along one that is not in use.
+fn ratios(ndim: usize, side_length: f64, xmin: Position, x: Position) -> Pivot
+    requires { ⌜ dimension ndim ≡ true ⌝ }
+    ensures { λ r. ⌜ r ≡ pivotOf (ratiosOf «side_length» (coords ndim xmin) (coords ndim x)) ⌝ }
+{
+    let ratios = Pivot {
+        i: ratio(side_length, xmin.x, x.x),
+        j: ratio(side_length, xmin.y, x.y),
+        k: ratio(side_length, xmin.z, x.z),
+    };
+    ratios.in_use(ndim)
 }
 
 // The index of a ratio that does not exceed its divisions: on the high edge the last one.
@@ -161,18 +209,14 @@ fn inner(n: u64, ratio: u64) -> u64
 }
 
 // The key of the container with these indices.
-fn combined(ndim: usize, ndiv: Divisions, pivot: Pivot) -> u64
-    requires { ⌜ dimension ndim ≡ true ⌝ ∗ ⌜ all division (counts ndim ndiv) ≡ true ⌝ ∗ ⌜ Below (counts ndim ndiv) (indices ndim pivot) ⌝ }
-    ensures { λ r. ⌜ r ≡ combine (counts ndim ndiv) (indices ndim pivot) ⌝ }
+fn combined(ndiv: Divisions, pivot: Pivot) -> u64
+    requires { ⌜ all division (counts 3 ndiv) ≡ true ⌝ ∗ ⌜ Below (counts 3 ndiv) (indices 3 pivot) ⌝ }
+    ensures { λ r. ⌜ r ≡ combine (counts 3 ndiv) (indices 3 pivot) ⌝ }
 {
-    let key = pivot.i + pivot.j * ndiv.x;
-    if ndim == 2 {
-        return key;
-    }
-    key + pivot.k * ndiv.x * ndiv.y
+    pivot.i + pivot.j * ndiv.x + pivot.k * ndiv.x * ndiv.y
 }
 
-// The container that a position falls into.
+// The container that a position falls into. In 2D the third axis, with one division and the ratio 0, adds nothing.
 pub fn calc_container_key(
     ndim: usize,
     side_length: f64,
@@ -183,25 +227,17 @@ pub fn calc_container_key(
     requires { ⌜ dimension ndim ≡ true ⌝ ∗ ⌜ all division (counts ndim ndiv) ≡ true ⌝ }
     ensures { λ r. ⌜ r ≡ located (counts ndim ndiv) «side_length» (coords ndim xmin) (coords ndim x) ⌝ }
 {
-    let rx = ratio(side_length, xmin.x, x.x);
-    if rx > ndiv.x {
+    let n = ndiv.in_use(ndim);
+    let r = ratios(ndim, side_length, xmin, x);
+    if (r.i > n.x) | ((r.j > n.y) | (r.k > n.z)) {
         return Located::Exceeds;
     }
-    let ry = ratio(side_length, xmin.y, x.y);
-    if ry > ndiv.y {
-        return Located::Exceeds;
-    }
-    let i = inner(ndiv.x, rx);
-    let j = inner(ndiv.y, ry);
-    if ndim == 2 {
-        return Located::Key(ContainerKey(combined(ndim, ndiv, Pivot { i, j, k: 0 })));
-    }
-    let rz = ratio(side_length, xmin.z, x.z);
-    if rz > ndiv.z {
-        return Located::Exceeds;
-    }
-    let k = inner(ndiv.z, rz);
-    Located::Key(ContainerKey(combined(ndim, ndiv, Pivot { i, j, k })))
+    let pivot = Pivot {
+        i: inner(n.x, r.i),
+        j: inner(n.y, r.j),
+        k: inner(n.z, r.k),
+    };
+    Located::Key(ContainerKey(combined(n, pivot)))
 }
 
 // How many containers there are.
@@ -209,22 +245,20 @@ pub fn container_count(ndim: usize, ndiv: Divisions) -> u64
     requires { ⌜ dimension ndim ≡ true ⌝ ∗ ⌜ all division (counts ndim ndiv) ≡ true ⌝ }
     ensures { λ r. ⌜ r ≡ containers (counts ndim ndiv) ⌝ }
 {
-    let n = ndiv.x * ndiv.y;
-    if ndim == 2 {
-        return n;
-    }
-    n * ndiv.z
+    let n = ndiv.in_use(ndim);
+    n.x * n.y * n.z
 }
 
 // The indices of a container. In 2D the third is 0.
 pub fn pivot_indices(ndim: usize, ndiv: Divisions, key: ContainerKey) -> Pivot
     requires { ⌜ dimension ndim ≡ true ⌝ ∗ ⌜ all division (counts ndim ndiv) ≡ true ⌝ ∗ ⌜ key .0 < containers (counts ndim ndiv) ⌝ }
-    ensures { λ r. ⌜ indices ndim r ≡ pivots (counts ndim ndiv) (key .0) ⌝ }
+    ensures { λ r. ⌜ r ≡ pivotOf (pivots (counts ndim ndiv) (key .0)) ⌝ }
 {
-    let n = ndiv.x * ndiv.y;
+    let d = ndiv.in_use(ndim);
+    let n = d.x * d.y;
     Pivot {
-        i: key.0 % ndiv.x,
-        j: (key.0 % n) / ndiv.x,
+        i: key.0 % d.x,
+        j: (key.0 % n) / d.x,
         k: key.0 / n,
     }
 }
@@ -249,11 +283,10 @@ pub fn container_center(
     ensures { λ r. ⌜ r ≡ positionOf (centre «side_length» (coords ndim xmin) (pivots (counts ndim ndiv) (key .0))) ⌝ }
 {
     let pivot = pivot_indices(ndim, ndiv, key);
-    let x = middle(side_length, xmin.x, pivot.i);
-    let y = middle(side_length, xmin.y, pivot.j);
-    if ndim == 2 {
-        return Position { x, y, z: 0.0 };
-    }
-    let z = middle(side_length, xmin.z, pivot.k);
-    Position { x, y, z }
+    let center = Position {
+        x: middle(side_length, xmin.x, pivot.i),
+        y: middle(side_length, xmin.y, pivot.j),
+        z: middle(side_length, xmin.z, pivot.k),
+    };
+    center.in_use(ndim)
 }

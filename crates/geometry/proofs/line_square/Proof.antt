@@ -1,7 +1,6 @@
 -- `geometry::line_square` meets its contract. Assumes nothing.
-use mathlib.Core.Path.{ap, _∙_}
-use Rattle.floats.specs.Sqrt.{sqrtOf}
-use Rattle.geometry.specs.Axes.{distance-is}
+use mathlib.Core.Path.{_∙_}
+use Rattle.geometry.specs.Axes.{square-is}
 use borrow.Author.Needs.{needs}
 use Rattle.geometry.proofs.line_square.Statement.{statement}
 use Rattle.geometry.proofs.line_square.Tie as tie
@@ -20,7 +19,7 @@ returns c = λ a b e.
     let s = c .before .before .before .before .before .before .before .before .before .before .args in
     let d = c .before .before .before .before .before .before .before .before .difference in
     let x = c .before .before .before .before .before .before .before .dot in
-    ap sqrtOf (c .dot2 .ensures) ∙ distance-is (s .ndim) a b (s .c) (s .line) (d .result) (x .result) e (d .ensures) (x .ensures)
+    c .dot2 .ensures ∙ square-is (s .ndim) a b (s .c) (s .line) (d .result) (x .result) e (d .ensures) (x .ensures)
 
 pub line-square-spec : {M : Type 1} → statement M
 line-square-spec = tie.close (tie.spec difference-requires dot-requires dot-requires-2 returns)

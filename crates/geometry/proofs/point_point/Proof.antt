@@ -1,5 +1,7 @@
 -- `geometry::point_point` meets its contract. Assumes nothing.
-use mathlib.Core.Path.{_∙_}
+use mathlib.Core.Path.{_∙_, ap}
+use Rattle.floats.specs.Sqrt.{sqrtOf}
+use Rattle.geometry.specs.Distances.{pointPoint}
 use borrow.Author.Needs.{needs}
 use Rattle.geometry.proofs.point_point.Statement.{statement}
 use Rattle.geometry.proofs.point_point.Tie as tie
@@ -11,7 +13,8 @@ sqrt-requires : tie.Need-sqrt-requires
 sqrt-requires c κs = search needs
 
 returns : tie.Need-returns
-returns c = c .sqrt .ensures ∙ c .before .point-square .ensures
+unfolding pointPoint
+returns c = c .sqrt .ensures ∙ ap sqrtOf (c .before .point-square .ensures)
 
 pub point-point-spec : {M : Type 1} → statement M
 point-point-spec = tie.close (tie.spec point-square-requires sqrt-requires returns)

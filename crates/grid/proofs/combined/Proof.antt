@@ -1,68 +1,48 @@
 -- `grid::combined` meets its contract. Assumes nothing.
 use Prim.Native.Nat.{ℕ, _≤_, _<_}
-use mathlib.Core.Path.{_≡_}
 use native.Mathlib.Omega.{arith}
-use Rattle.geometry.specs.Axes.{three}
-use Rattle.grid.specs.Bounds.{Bounds, bounds, Inside, inside, two-small, three-small}
-use Rattle.grid.proofs.Flat.{two-axes, three-axes}
+use Rattle.grid.specs.Bounds.{Bounds, bounds, two-small, three-small}
+use Rattle.grid.proofs.Flat.{key-is}
 use Rattle.grid.proofs.combined.Statement.{statement}
 use Rattle.grid.proofs.combined.Tie as tie
 
-divisions : (c : tie.Start) → Bounds (c .args .ndim) (c .args .ndiv)
-divisions c = bounds (c .args .ndim) (c .args .ndiv) (c .pre .0) (c .pre .1 .0)
+-- each index is below 1,024
+record Small (s : tie.Start) : Type 0 where
+  i : s .args .pivot .i ≤ 1024
+  j : s .args .pivot .j ≤ 1024
+  k : s .args .pivot .k ≤ 1024
+  x : s .args .ndiv .x ≤ 1024
+  y : s .args .ndiv .y ≤ 1024
 
-indices : (c : tie.Start) → Inside (c .args .ndim) (c .args .ndiv) (c .args .pivot)
-indices c = inside (c .args .ndim) (c .args .ndiv) (c .args .pivot) (c .pre .0) (c .pre .1 .1)
+small : (s : tie.Start) → Small s
+small s =
+    let d = bounds (s .args .ndiv) (s .pre .0) in
+    let p = s .pre .1 in
+    record { i = below (p .0) (d .x .most); j = below (p .1 .0) (d .y .most); k = below (p .1 .1 .0) (d .z .most); x = d .x .most; y = d .y .most }
+  where
+    below : {i n : ℕ} → i < n → n ≤ 1024 → i ≤ 1024
+    below h k = omega arith
 
-small : {i n : ℕ} → i < n → n ≤ 1024 → i ≤ 1024
-small h k = omega arith
+mul-result : tie.Need-mul-result
+mul-result c = let b = small (c .before .before) in omega (arith, two-small (b .j) (b .x))
 
-third : (c : tie.Else1) → c .before .before .before .before .args .ndim ≡ 3
-third c = three (c .before .before .before .before .args .ndim) (c .before .before .before .before .pre .0) (c .if1 .left)
+add-result : tie.Need-add-result
+add-result c = let b = small (c .before .before .before) in omega (arith, two-small (b .j) (b .x), b .i)
 
-mul-key : tie.Need-mul-key
-mul-key c =
-    let d = divisions (c .before .before) in
-    let p = indices (c .before .before) in
-    omega (arith, two-small (small (p .j) (d .y .most)) (d .x .most))
+mul-result-2 : tie.Need-mul-result-2
+mul-result-2 c = let b = small (c .before .before .before .before .before) in omega (arith, two-small (b .k) (b .x))
 
-add-key : tie.Need-add-key
-add-key c =
-    let d = divisions (c .before .before .before) in
-    let p = indices (c .before .before .before) in
-    omega (arith, two-small (small (p .j) (d .y .most)) (d .x .most), small (p .i) (d .x .most))
+mul-result-3 : tie.Need-mul-result-3
+mul-result-3 c = let b = small (c .before .before .before .before .before .before) in omega (arith, three-small (b .k) (b .x) (b .y))
+
+add-result-2 : tie.Need-add-result-2
+add-result-2 c = let b = small (c .before .before .before .before .before .before) in omega (arith, three-small (b .k) (b .x) (b .y), two-small (b .j) (b .x), b .i)
 
 returns : tie.Need-returns
 returns c =
-    let a = c .before .before .before .before .args in
-    rw (c .if1 .taken) (two-axes (a .ndiv .x) (a .ndiv .y) (a .pivot .i) (a .pivot .j))
-
-mul-result : tie.Need-mul-result
-mul-result c =
-    let d = divisions (c .before .before .before .before .before .before) in
-    let p = indices (c .before .before .before .before .before .before) in
-    let e = third (c .before .before) in
-    omega (arith, two-small (small (p .k e) (d .z e .most)) (d .x .most))
-
-mul-result-2 : tie.Need-mul-result-2
-mul-result-2 c =
-    let d = divisions (c .before .before .before .before .before .before .before) in
-    let p = indices (c .before .before .before .before .before .before .before) in
-    let e = third (c .before .before .before) in
-    omega (arith, three-small (small (p .k e) (d .z e .most)) (d .x .most) (d .y .most))
-
-add-result : tie.Need-add-result
-add-result c =
-    let d = divisions (c .before .before .before .before .before .before .before) in
-    let p = indices (c .before .before .before .before .before .before .before) in
-    let e = third (c .before .before .before) in
-    omega (arith, three-small (small (p .k e) (d .z e .most)) (d .x .most) (d .y .most), two-small (small (p .j) (d .y .most)) (d .x .most), small (p .i) (d .x .most))
-
-returns-2 : tie.Need-returns-2
-returns-2 c =
-    let a = c .before .before .before .before .before .before .before .args in
-    rw (third (c .before .before .before)) (three-axes (a .ndiv .x) (a .ndiv .y) (a .ndiv .z) (a .pivot .i) (a .pivot .j) (a .pivot .k))
+    let a = c .before .before .before .before .before .before .args in
+    key-is (a .ndiv .x) (a .ndiv .y) (a .ndiv .z) (a .pivot .i) (a .pivot .j) (a .pivot .k)
 
 pub combined-spec : {M : Type 1} → statement M
 combined-spec =
-    tie.close (tie.spec mul-key add-key returns mul-result mul-result-2 add-result returns-2)
+    tie.close (tie.spec mul-result add-result mul-result-2 mul-result-3 add-result-2 returns)

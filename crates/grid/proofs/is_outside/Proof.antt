@@ -1,46 +1,28 @@
-use mathlib.Core.Bool.{or-false}
-use mathlib.Core.Path.{_∙_, sym}
-use Rattle.geometry.specs.Axes.{three, two-at-least}
-use Rattle.grid.specs.Containers.{outside}
+-- `grid::is_outside` meets its contract. Assumes nothing.
+use mathlib.Core.List.{[], _∷_}
 use borrow.Author.Needs.{needs}
+use Rattle.grid.proofs.Flat.{outside-tests}
 use Rattle.grid.proofs.is_outside.Statement.{statement}
 use Rattle.grid.proofs.is_outside.Tie as tie
-
--- `grid::is_outside` meets its contract. Assumes nothing.
 
 is-beyond-requires : tie.Need-is-beyond-requires
 is-beyond-requires c κs = search needs
 
-returns : tie.Need-returns
-unfolding outside
-returns c = rw (two-at-least (c .before .before .args .ndim) (c .before .before .pre), sym (c .before .is-beyond .ensures) ∙ c .if1 .taken)
-
 is-beyond-requires-2 : tie.Need-is-beyond-requires-2
 is-beyond-requires-2 c κs = search needs
-
-returns-2 : tie.Need-returns-2
-unfolding outside
-returns-2 c = rw (two-at-least (c .before .before .before .before .args .ndim) (c .before .before .before .before .pre), sym (c .before .before .before .is-beyond .ensures) ∙ c .before .before .if1 .left, sym (c .before .is-beyond2 .ensures) ∙ c .if2 .taken)
-
-returns-3 : tie.Need-returns-3
-unfolding outside
-returns-3 c = rw (c .if3 .taken, sym (c .before .before .before .before .is-beyond .ensures) ∙ c .before .before .before .if1 .left, sym (c .before .before .is-beyond2 .ensures) ∙ c .before .if2 .left)
 
 is-beyond-requires-3 : tie.Need-is-beyond-requires-3
 is-beyond-requires-3 c κs = search needs
 
-returns-4 : tie.Need-returns-4
-unfolding outside
-returns-4 c = rw (three (c .before .before .before .before .before .before .args .ndim) (c .before .before .before .before .before .before .pre) (c .before .if3 .left), sym (c .before .before .before .before .before .is-beyond .ensures) ∙ c .before .before .before .before .if1 .left, sym (c .before .before .before .is-beyond2 .ensures) ∙ c .before .before .if2 .left, or-false) (c .is-beyond3 .ensures)
+on-some-axis-requires : tie.Need-on-some-axis-requires
+on-some-axis-requires c κs = search needs
+
+returns : tie.Need-returns
+returns c =
+    let s = c .before .before .before .before .args in
+    rw (outside-tests (s .ndim) (s .xmin .x ∷ s .xmin .y ∷ s .xmin .z ∷ []) (s .xmax .x ∷ s .xmax .y ∷ s .xmax .z ∷ []) (s .x .x ∷ s .x .y ∷ s .x .z ∷ []), ← c .before .before .before .is-beyond .ensures, ← c .before .before .is-beyond2 .ensures, ← c .before .is-beyond3 .ensures)
+    (c .on-some-axis .ensures)
 
 pub is-outside-spec : {M : Type 1} → statement M
 is-outside-spec =
-    tie.close
-    (tie.spec
-    is-beyond-requires
-    returns
-    is-beyond-requires-2
-    returns-2
-    returns-3
-    is-beyond-requires-3
-    returns-4)
+    tie.close (tie.spec is-beyond-requires is-beyond-requires-2 is-beyond-requires-3 on-some-axis-requires returns)

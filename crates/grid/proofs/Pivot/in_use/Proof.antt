@@ -1,0 +1,13 @@
+-- `grid::Pivot::in_use` meets its contract. Assumes nothing.
+use Rattle.geometry.specs.Axes.{three}
+use Rattle.grid.proofs.Pivot.in_use.Statement.{statement}
+use Rattle.grid.proofs.Pivot.in_use.Tie as tie
+
+returns : tie.Need-returns
+returns c = rw (c .if1 .taken)
+
+returns-2 : tie.Need-returns-2
+returns-2 c = rw (three (c .before .args .ndim) (c .before .pre) (c .if1 .left))
+
+pub in-use-spec : {M : Type 1} → statement M
+in-use-spec = tie.close (tie.spec returns returns-2)
