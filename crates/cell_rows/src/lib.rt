@@ -61,14 +61,6 @@ fn box_corner(b: BoundingBox, c: usize) -> Position
     }
 }
 
-// How many corners a box has.
-fn corner_count(ndim: usize) -> usize
-    requires { ⌜ dimension ndim ≡ true ⌝ }
-    ensures { λ r. ⌜ r ≡ 2 ^ ndim ⌝ }
-{
-    if ndim == 2 { 4 } else { 8 }
-}
-
 // Adds a key to the first n, if it is not among them. Returns how many there are then.
 fn join_once(keys: &mut [u64; 8], n: usize, key: u64) -> usize
     requires { ⌜ length (now keys) ≡ 8 ⌝ ∗ ⌜ n < 8 ⌝ }
@@ -86,7 +78,7 @@ fn corner_keys(grid: Containers, b: BoundingBox, keys: &mut [u64; 8]) -> Keys
     requires { ⌜ Divided grid ⌝ ∗ ⌜ length (now keys) ≡ 8 ⌝ }
     ensures { λ r. ⌜ Holds (boxKeysOr grid (boxed (grid .ndim) b)) r (now (keys .exit)) ⌝ }
 {
-    let ncorner = corner_count(grid.ndim);
+    let ncorner = geometry::corner_count(grid.ndim);
     let mut n = 0;
     let mut c = 0;
     while c < ncorner {

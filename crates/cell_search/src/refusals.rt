@@ -62,7 +62,7 @@ fn corner_ok(ndim: usize, p: Position) -> bool
     requires { ⌜ dimension ndim ≡ true ⌝ }
     ensures { λ r. ⌜ r ≡ all cornerLimit (axes ndim p) ⌝ }
 {
-    is_corner(p.x) & (is_corner(p.y) & ((ndim == 2) | is_corner(p.z)))
+    geometry::on_every_axis(ndim, is_corner(p.x), is_corner(p.y), is_corner(p.z))
 }
 
 // Whether the low corner is above the high one on no axis.
@@ -70,7 +70,7 @@ fn are_ordered(ndim: usize, xmin: Position, xmax: Position) -> bool
     requires { ⌜ dimension ndim ≡ true ⌝ }
     ensures { λ r. ⌜ r ≡ ordered (axes ndim xmin) (axes ndim xmax) ⌝ }
 {
-    (xmin.x <= xmax.x) & ((xmin.y <= xmax.y) & ((ndim == 2) | (xmin.z <= xmax.z)))
+    geometry::on_every_axis(ndim, xmin.x <= xmax.x, xmin.y <= xmax.y, xmin.z <= xmax.z)
 }
 
 // Whether the index by itself is good. In 2D the third axis is not judged.

@@ -1,6 +1,6 @@
 -- Laws of positions and the lists of their coordinates, over any number of axes.
 -- Assumes nothing.
-use Prim.Native.Nat.{ℕ, zero, suc, _≤_, _<_}
+use Prim.Native.Nat.{ℕ, zero, suc, _^_, _≤_, _<_}
 use native.Mathlib.Nat.{lt-of-lt-of-le}
 use native.Mathlib.Omega.{arith}
 use mathlib.Core.Path.{_≡_, refl, sym, ap, _∙_, subst}
@@ -43,6 +43,13 @@ for-axes P two three n h = go (two-or-three n h)
     go (inl e) = subst P (sym e) two
     go (inr e) = subst P (sym e) three
 
+pub few-axes : (n : ℕ) → dimension n ≡ true → (2 ≤ n) × (n ≤ 3)
+few-axes n h = for-axes (λ n. (2 ≤ n) × (n ≤ 3)) (omega arith) (omega arith) n h
+
+-- a square has 4 corners, a cube 8
+pub corners-most : (n : ℕ) → dimension n ≡ true → 2 ^ n ≤ 8
+corners-most n h = for-axes (λ n. 2 ^ n ≤ 8) (omega arith) (omega arith) n h
+
 -- as many coordinates as axes
 pub coords-length : (n : ℕ) (p : Position) → dimension n ≡ true → length (coords n p) ≡ n
 coords-length n p h = for-axes (λ n. length (coords n p) ≡ n) refl refl n h
@@ -55,7 +62,7 @@ axis-last (suc (suc i)) p h k = refl
 
 -- the coordinate on an axis in use is the list's entry
 pub axis-entry : (n i : ℕ) (p : Position) → dimension n ≡ true → i < n → getD (coords n p) i zeroF ≡ axisOf i p
-axis-entry n i p h k = getD-take n (p .x ∷ p .y ∷ p .z ∷ []) i zeroF k ∙ go i (lt-of-lt-of-le k (for-axes (λ n. n ≤ 3) (omega arith) (omega arith) n h))
+axis-entry n i p h k = getD-take n (p .x ∷ p .y ∷ p .z ∷ []) i zeroF k ∙ go i (lt-of-lt-of-le k (few-axes n h .1))
   where
     go : (i : ℕ) → i < 3 → getD (p .x ∷ p .y ∷ p .z ∷ []) i zeroF ≡ axisOf i p
     go zero k = refl

@@ -1,6 +1,6 @@
 -- In 2D a third axis of one division, along which every ratio and index is 0, adds nothing: what a list of the divisions in use says, the three of their record say. Assumes nothing.
 use Prim.Native.Nat.{ℕ, suc, _/_, _≤_, _<_}
-use native.Mathlib.Nat.{mod-one}
+use native.Mathlib.Nat.{mod-one, mul-one, mul-assoc}
 use native.Mathlib.Omega.{arith}
 use mathlib.Core.Path.{_≡_, refl, ap, _∙_}
 use mathlib.Core.Bool.{true, cond}
@@ -16,7 +16,7 @@ use Rattle.grid.specs.declared.Located.the-variants.{Key, Exceeds}
 use Rattle.grid.specs.declared.Pivot.{Pivot}
 use Rattle.grid.specs.Divisions.{counts, divisionsOf, division}
 use Rattle.grid.specs.Keys.{pivots-below}
-use Rattle.grid.specs.Bounds.{bounds}
+use Rattle.grid.specs.Bounds.{Bounds, bounds, three-small}
 use Rattle.grid.specs.Containers.{ratios, exceed, inner, combine, keyOf, located, containers, indices, pivotOf, pivots}
 
 module _ (n : ℕ) (h : dimension n ≡ true) (d e : Divisions) (u : e ≡ divisionsOf (counts n d)) where
@@ -25,10 +25,22 @@ module _ (n : ℕ) (h : dimension n ≡ true) (d e : Divisions) (u : e ≡ divis
   unfolding all
   divided k = rw u (for-axes (λ n. all division (counts n d) ≡ true → all division (counts 3 (divisionsOf (counts n d))) ≡ true) (λ k. k) (λ k. k) n h k)
 
+  pub sized : all division (counts n d) ≡ true → Bounds e
+  sized k = bounds e (divided k)
+
+  -- they are the same along the axes in use
+  pub counts-are : counts n e ≡ counts n d
+  counts-are = rw u (for-axes (λ n. counts n (divisionsOf (counts n d)) ≡ counts n d) refl refl n h)
+
   -- there are as many containers
   pub containers-are : containers (counts 3 e) ≡ containers (counts n d)
   unfolding containers
   containers-are = rw u (for-axes (λ n. containers (counts 3 (divisionsOf (counts n d))) ≡ containers (counts n d)) refl refl n h)
+
+  -- no more than 2 ^ 30
+  pub few-containers : all division (counts n d) ≡ true → containers (counts n d) ≤ 1073741824
+  unfolding containers
+  few-containers k = let b = sized k in rw (← containers-are, mul-one (e .z), ← mul-assoc (e .x) (e .y) (e .z)) (three-small (b .x .most) (b .y .most) (b .z .most))
 
   -- a key has the same indices
   pub pivots-are : (key : ℕ) → pivotOf (pivots (counts 3 e) key) ≡ pivotOf (pivots (counts n d) key)

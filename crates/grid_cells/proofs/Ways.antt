@@ -35,18 +35,6 @@ and-that a b e = rw e
 
 -- ---- divisions
 
-pub any-counts : (f : ℕ → Bool) (n : ℕ) (d : Divisions) → dimension n ≡ true → (f (d .x) || (f (d .y) || (eqb n 3 && f (d .z)))) ≡ any f (counts n d)
-unfolding any
-any-counts f n d h = go (two-or-three n h)
-  where
-    go : (n ≡ 2) ⊎ (n ≡ 3) → (f (d .x) || (f (d .y) || (eqb n 3 && f (d .z)))) ≡ any f (counts n d)
-    go (inl e) = rw e
-    go (inr e) = rw e (ap (λ (b : Bool). f (d .x) || (f (d .y) || b)) (last (f (d .z))))
-      where
-        last : (b : Bool) → b ≡ (b || false)
-        last true = refl
-        last false = refl
-
 -- from 1 to 1,024: neither none nor many
 pub divided : (ns : List ℕ) → any (λ (d : ℕ). eqb d 0) ns ≡ false → any (λ (d : ℕ). ltb 1024 d) ns ≡ false → all division ns ≡ true
 unfolding any all

@@ -33,13 +33,12 @@ fn divide(ndim: usize, side_length: f64, xmin: Position, xmax: Position) -> Divi
     requires { ⌜ dimension ndim ≡ true ⌝ }
     ensures { λ r. ⌜ r ≡ divisionsOf (cellDivisions «side_length» (axes ndim xmin) (axes ndim xmax)) ⌝ }
 {
-    let x = divisions_along(side_length, xmin.x, xmax.x);
-    let y = divisions_along(side_length, xmin.y, xmax.y);
-    if ndim == 2 {
-        return Divisions { x, y, z: 1 };
-    }
-    let z = divisions_along(side_length, xmin.z, xmax.z);
-    Divisions { x, y, z }
+    let ndiv = Divisions {
+        x: divisions_along(side_length, xmin.x, xmax.x),
+        y: divisions_along(side_length, xmin.y, xmax.y),
+        z: divisions_along(side_length, xmin.z, xmax.z),
+    };
+    ndiv.in_use(ndim)
 }
 
 // Whether there is no division along some axis.
@@ -47,7 +46,7 @@ fn has_none(ndim: usize, ndiv: Divisions) -> bool
     requires { ⌜ dimension ndim ≡ true ⌝ }
     ensures { λ r. ⌜ r ≡ any (λ (d : ℕ). eqb d 0) (counts ndim ndiv) ⌝ }
 {
-    ndiv.x == 0 || (ndiv.y == 0 || (ndim == 3 && ndiv.z == 0))
+    geometry::on_some_axis(ndim, ndiv.x == 0, ndiv.y == 0, ndiv.z == 0)
 }
 
 // Whether there are more than 1,024 divisions along some axis.
@@ -55,7 +54,7 @@ fn has_many(ndim: usize, ndiv: Divisions) -> bool
     requires { ⌜ dimension ndim ≡ true ⌝ }
     ensures { λ r. ⌜ r ≡ any (λ (d : ℕ). ltb 1024 d) (counts ndim ndiv) ⌝ }
 {
-    ndiv.x > 1024 || (ndiv.y > 1024 || (ndim == 3 && ndiv.z > 1024))
+    geometry::on_some_axis(ndim, ndiv.x > 1024, ndiv.y > 1024, ndiv.z > 1024)
 }
 
 // 22 or 6, or 0.

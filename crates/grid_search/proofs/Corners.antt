@@ -1,24 +1,23 @@
 -- Corners as positions and as lists of coordinates. Assumes nothing.
-use Prim.Native.Nat.{ℕ}
-use mathlib.Core.Path.{_≡_, sym, _∙_, ap}
-use mathlib.Core.Logic.{_⊎_, inl, inr}
-use mathlib.Core.Bool.{true, _&&_, _||_, and-true}
-use mathlib.Core.List.{[], _∷_, map}
-use lib.Dec.{eqb}
+use Prim.Native.Nat.{ℕ, zero, suc}
+use mathlib.Core.Path.{_≡_, refl, sym, _∙_, ap}
+use mathlib.Core.Bool.{Bool}
+use mathlib.Core.List.{List, [], _∷_, map}
+use lib.ListN.{take}
 use lib.Ieee.{Float, lt}
+use Rattle.basics.specs.Lists.{all, zipWith}
 use Rattle.basics.specs.Laws.{map-take}
 use Rattle.geometry.specs.declared.Position.{Position}
-use Rattle.geometry.specs.Position.{coords, positionOf, dimension}
-use Rattle.geometry.specs.Axes.{two-or-three}
+use Rattle.geometry.specs.Position.{coords, positionOf}
 use Rattle.grid_search.specs.Sheet.{above}
 
-pub above-coords : (n : ℕ) (p q : Position) → dimension n ≡ true → (lt (p .x) (q .x) && (lt (p .y) (q .y) && (eqb n 2 || lt (p .z) (q .z)))) ≡ above (coords n p) (coords n q)
-unfolding above
-above-coords n p q h = go (two-or-three n h)
-  where
-    go : (n ≡ 2) ⊎ (n ≡ 3) → (lt (p .x) (q .x) && (lt (p .y) (q .y) && (eqb n 2 || lt (p .z) (q .z)))) ≡ above (coords n p) (coords n q)
-    go (inl e) = rw (e, and-true)
-    go (inr e) = rw (e, and-true)
+-- above on every axis, by the test along each
+pub above-tests : (n : ℕ) (los his : List Float) → above (take n los) (take n his) ≡ all (λ (b : Bool). b) (take n (zipWith lt los his))
+unfolding above all zipWith
+above-tests zero los his = refl
+above-tests (suc n) [] his = refl
+above-tests (suc n) (a ∷ los) [] = refl
+above-tests (suc n) (a ∷ los) (b ∷ his) = rw (above-tests n los his)
 
 -- each coordinate moved
 pub moved : (f : Float → Float) (n : ℕ) (p : Position) (r : Position) → r ≡ positionOf (coords n (record { x = f (p .x); y = f (p .y); z = f (p .z) })) → r ≡ positionOf (map f (coords n p))

@@ -7,7 +7,7 @@ ghost use Rattle.basics.specs.Lists.{all};
 ghost use Rattle.floats.specs.Rounded.{_⊕_, _⊖_, _⊗_, _⊘_, ofNat};
 ghost use Rattle.geometry.specs.Position.{coords, positionOf, dimension};
 ghost use Rattle.grid.specs.Divisions.{counts, division};
-ghost use Rattle.grid_search.specs.Sheet.{numberOf, toleranceOf, borderOf, lowered as loweredOf, raised as raisedOf, sideOf, coveredOf, diagonal as diagonalOf, build};
+ghost use Rattle.grid_search.specs.Sheet.{numberOf, toleranceOf, borderOf, largest as largestOf, lowered as loweredOf, raised as raisedOf, sideOf, coveredOf, diagonal as diagonalOf, build};
 ghost use Rattle.grid_search.specs.Sheet.{outOfLimits, above, made, newSheet, samePosition, sameDivisions, sameSheet, sheetOk};
 use geometry::Position;
 use grid::Divisions;
@@ -88,21 +88,6 @@ fn border_in_force(border_tol: GivenF64) -> f64
     }
 }
 
-// The position with +0 on an axis that is not in use.
-fn in_use(ndim: usize, p: Position) -> Position
-    requires { ⌜ dimension ndim ≡ true ⌝ }
-    ensures { λ r. ⌜ r ≡ positionOf (coords ndim p) ⌝ }
-{
-    if ndim == 2 {
-        return Position {
-            x: p.x,
-            y: p.y,
-            z: 0.0,
-        };
-    }
-    p
-}
-
 // The low corner moved outwards by the border.
 pub fn lowered(ndim: usize, border: f64, low: Position) -> Position
     requires { ⌜ dimension ndim ≡ true ⌝ }
@@ -114,9 +99,9 @@ pub fn lowered(ndim: usize, border: f64, low: Position) -> Position
             y: low.y - border,
             z: low.z - border,
         };
-        return in_use(ndim, moved);
+        return moved.in_use(ndim);
     }
-    in_use(ndim, low)
+    low.in_use(ndim)
 }
 
 // The high corner moved outwards by the border.
@@ -130,9 +115,21 @@ pub fn raised(ndim: usize, border: f64, high: Position) -> Position
             y: high.y + border,
             z: high.z + border,
         };
-        return in_use(ndim, moved);
+        return moved.in_use(ndim);
     }
-    in_use(ndim, high)
+    high.in_use(ndim)
+}
+
+// The largest of the lengths along the axes in use.
+pub fn largest(ndim: usize, lengths: Position) -> f64
+    requires { ⌜ dimension ndim ≡ true ⌝ }
+    ensures { λ r. ⌜ r ≡ largestOf (coords ndim lengths) ⌝ }
+{
+    let first = floats::max(lengths.x, lengths.y);
+    if ndim == 2 {
+        return first;
+    }
+    floats::max(first, lengths.z)
 }
 
 // The side of n containers along an axis.
@@ -148,13 +145,13 @@ fn side(ndim: usize, xmin: Position, xmax: Position, ndiv: Divisions) -> f64
     requires { ⌜ dimension ndim ≡ true ⌝ ∗ ⌜ all division (counts ndim ndiv) ≡ true ⌝ }
     ensures { λ r. ⌜ r ≡ sideOf (coords ndim xmin) (coords ndim xmax) (counts ndim ndiv) ⌝ }
 {
-    let x = side_along(xmin.x, xmax.x, ndiv.x);
-    let y = side_along(xmin.y, xmax.y, ndiv.y);
-    let largest = floats::max(x, y);
-    if ndim == 2 {
-        return largest;
-    }
-    floats::max(largest, side_along(xmin.z, xmax.z, ndiv.z))
+    let n = ndiv.in_use(ndim);
+    let sides = Position {
+        x: side_along(xmin.x, xmax.x, n.x),
+        y: side_along(xmin.y, xmax.y, n.y),
+        z: side_along(xmin.z, xmax.z, n.z),
+    };
+    largest(ndim, sides)
 }
 
 // Where n containers from xmin on end.
@@ -170,13 +167,13 @@ pub fn covered(ndim: usize, xmin: Position, side: f64, ndiv: Divisions) -> Posit
     requires { ⌜ dimension ndim ≡ true ⌝ ∗ ⌜ all division (counts ndim ndiv) ≡ true ⌝ }
     ensures { λ r. ⌜ r ≡ positionOf (coveredOf side (coords ndim xmin) (counts ndim ndiv)) ⌝ }
 {
-    let x = end_along(xmin.x, side, ndiv.x);
-    let y = end_along(xmin.y, side, ndiv.y);
-    if ndim == 2 {
-        return Position { x, y, z: 0.0 };
-    }
-    let z = end_along(xmin.z, side, ndiv.z);
-    Position { x, y, z }
+    let n = ndiv.in_use(ndim);
+    let ends = Position {
+        x: end_along(xmin.x, side, n.x),
+        y: end_along(xmin.y, side, n.y),
+        z: end_along(xmin.z, side, n.z),
+    };
+    ends.in_use(ndim)
 }
 
 // The diagonal of a square or a cube of side 1.
@@ -207,8 +204,8 @@ fn built(
     let xmax = covered(ndim, xmin, side_length, ndiv);
     let d = diagonal(ndim);
     let tol_dist = d * tolerance_in_force(tolerance);
-    let low = in_use(ndim, low);
-    let high = in_use(ndim, high);
+    let low = low.in_use(ndim);
+    let high = high.in_use(ndim);
     GridSearch {
         ndim,
         low,
@@ -242,7 +239,7 @@ pub fn is_above(ndim: usize, low: Position, high: Position) -> bool
     requires { ⌜ dimension ndim ≡ true ⌝ }
     ensures { λ r. ⌜ r ≡ above (coords ndim low) (coords ndim high) ⌝ }
 {
-    (low.x < high.x) & ((low.y < high.y) & ((ndim == 2) | (low.z < high.z)))
+    geometry::on_every_axis(ndim, low.x < high.x, low.y < high.y, low.z < high.z)
 }
 
 // The sheet of corners that are positions, or what turns the settings away: 3 to 10.

@@ -17,19 +17,12 @@ use Rattle.basics.specs.Bools.{or-right}
 use Rattle.basics.specs.Lists.{all, tab}
 use Rattle.basics.specs.Laws.{all-at, length-tab, getD-tab, map-tab}
 use Rattle.geometry.specs.Position.{dimension}
-use Rattle.geometry.specs.Axes.{two-or-three}
+use Rattle.geometry.specs.Axes.{few-axes}
 use Rattle.mesh.specs.Mesh.{Mesh, pointCount, cellCount, brokenMesh, Whole, pointAt, cornersOf, cornerPoints}
 
 -- the whole parts of a list
 whole-parts : (d x n : ℕ) → 0 < d → x < n / d → x * d + d ≤ n
 whole-parts d x n p h = rw (← suc-mul x d) (le-div-iff-mul-le p .0 h)
-
-pub few-axes : (n : ℕ) → dimension n ≡ true → (2 ≤ n) × (n ≤ 3)
-few-axes n h = go (two-or-three n h)
-  where
-    go : (n ≡ 2) ⊎ (n ≡ 3) → (2 ≤ n) × (n ≤ 3)
-    go (inl e) = omega arith
-    go (inr e) = omega arith
 
 module _ (n : ℕ) (m : Mesh) (w : Whole n m) where
   all-named : all (λ (p : ℕ). ltb p (pointCount n m)) (m .corners) ≡ true

@@ -121,11 +121,12 @@ impl BoundingBox {
         requires { ⌜ dimension ndim ≡ true ⌝ }
         ensures { λ r. ⌜ r ≡ longestSide (boxed ndim self) ⌝ }
     {
-        let first = floats::max(self.high.x - self.low.x, self.high.y - self.low.y);
-        if ndim == 2 {
-            return first;
-        }
-        floats::max(first, self.high.z - self.low.z)
+        let lengths = Position {
+            x: self.high.x - self.low.x,
+            y: self.high.y - self.low.y,
+            z: self.high.z - self.low.z,
+        };
+        grid_search::largest(ndim, lengths)
     }
 }
 

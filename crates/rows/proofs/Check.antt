@@ -1,7 +1,7 @@
 -- The check of a library, column by column: the tests of the rows in use are tests of the first entries of each list.
 -- Assumes nothing.
-use Prim.Native.Nat.{ℕ, zero, suc, _+_, _-_, _*_, _^_, _≤_, _<_}
-use native.Mathlib.Nat.{eq-or-lt-of-le, lt-of-le-of-lt, mul-one, mul-assoc}
+use Prim.Native.Nat.{ℕ, zero, suc, _+_, _-_, _^_, _≤_, _<_}
+use native.Mathlib.Nat.{eq-or-lt-of-le, lt-of-le-of-lt}
 use native.Mathlib.Omega.{arith}
 use mathlib.Core.Path.{_≡_, refl, sym, ap, ap₂, _∙_, subst}
 use mathlib.Core.Logic.{_⊎_, inl, inr, ⊎-elim}
@@ -19,8 +19,8 @@ use Rattle.basics.specs.Laws.{length-tab, getD-tab, tab-take, all-tab, all-at, 
 use Rattle.geometry.specs.Position.{coordinate, dimension}
 use Rattle.geometry.specs.Axes.{two-or-three}
 use Rattle.grid.specs.Containers.{containers}
-use Rattle.grid.specs.Divisions.{counts}
-use Rattle.grid.specs.Bounds.{bounds, two-small, three-small}
+use Rattle.grid.specs.Divisions.{counts, divisionsOf}
+use Rattle.grid.specs.InUse.{few-containers}
 use Rattle.grid_search.specs.declared.GridSearch.{GridSearch}
 use Rattle.grid_search.specs.Sheet.{sheetOk}
 use Rattle.grid_search.specs.Good.{good}
@@ -85,26 +85,15 @@ abbrev pub keysOk : GridSearch → List ℕ → ℕ → Bool
 keysOk s keys used = all (λ (k : ℕ). ltb k (containers (counts (s .ndim) (s .ndiv)))) (take used keys)
 
 -- there are no more than 2 ^ 30 containers
-few-containers : (s : GridSearch) → Divided s → containers (counts (s .ndim) (s .ndiv)) ≤ 1073741824
-unfolding containers
-few-containers s d =
-    let b = bounds (s .ndim) (s .ndiv) (d .axes) (d .divisions) in
-    ⊎-elim (λ e. subst (λ (n : ℕ). containers (counts n (s .ndiv)) ≤ 1073741824) (sym e) (flat (s .ndiv .x) (s .ndiv .y) (two-small (b .x .most) (b .y .most))))
-    (λ e. subst (λ (n : ℕ). containers (counts n (s .ndiv)) ≤ 1073741824) (sym e) (solid (s .ndiv .x) (s .ndiv .y) (s .ndiv .z) (three-small (b .x .most) (b .y .most) (b .z e .most))))
-    (two-or-three (s .ndim) (d .axes))
-  where
-    flat : (x y : ℕ) → x * y ≤ 1048576 → x * (y * 1) ≤ 1073741824
-    flat x y h = rw (mul-one y) (omega arith)
-
-    solid : (x y z : ℕ) → x * y * z ≤ 1073741824 → x * (y * (z * 1)) ≤ 1073741824
-    solid x y z h = rw (mul-one z, ← mul-assoc x y z) h
+most-containers : (s : GridSearch) → Divided s → containers (counts (s .ndim) (s .ndiv)) ≤ 1073741824
+most-containers s d = few-containers (s .ndim) (d .axes) (s .ndiv) (divisionsOf (counts (s .ndim) (s .ndiv))) refl (d .divisions)
 
 high-key : (s : GridSearch) (keys : List ℕ) (used : ℕ) → Divided s → used ≤ length keys → (j : ℕ) → j < used → 2 ^ 32 ≤ getD keys j 0 → keysOk s keys used ≡ false
 high-key s keys used d h j l g =
     let p : ℕ → Bool = λ (k : ℕ). ltb k (containers (counts (s .ndim) (s .ndiv))) in
     by-test (keysOk s keys used)
     (λ t. clash (all-at p (tab used (λ i. getD keys i 0)) j 0 (rw length-tab l) (ap (all p) (tab-take used keys 0 h) ∙ t))
-    (ap p (getD-tab used (λ i. getD keys i 0) j 0 l) ∙ le-ltb (getD keys j 0) (containers (counts (s .ndim) (s .ndiv))) (omega (arith, few-containers s d))))
+    (ap p (getD-tab used (λ i. getD keys i 0) j 0 l) ∙ le-ltb (getD keys j 0) (containers (counts (s .ndim) (s .ndiv))) (omega (arith, most-containers s d))))
     (λ f. f)
 
 module _ (s : GridSearch) (keys ids : List ℕ) (xs ys zs : List Float) (used : ℕ) (h : Checked s keys ids xs ys zs used) where

@@ -4,7 +4,6 @@ use Prim.Native.Nat.{ℕ, zero, suc, _+_, _/_, _%_, _^_, _≤_, _<_}
 use native.Mathlib.Numerals.{add-one}
 use native.Mathlib.Omega.{arith}
 use mathlib.Core.Path.{_≡_, refl, sym, ap, ap₂, _∙_, subst}
-use mathlib.Core.Logic.{_⊎_, inl, inr}
 use mathlib.Core.Bool.{Bool, true, false, cond, not, _&&_, _||_, or-true, or-false, or-assoc}
 use mathlib.Core.Option.{Option, none, some}
 use mathlib.Core.List.{List, [], _∷_, _++_, map}
@@ -20,7 +19,7 @@ use Rattle.basics.specs.Refusals.{fault, code}
 use Rattle.floats.specs.Rounded.{_⊕_, _⊖_}
 use Rattle.geometry.specs.declared.Position.{Position}
 use Rattle.geometry.specs.Position.{coords, positionOf, coordinate, dimension}
-use Rattle.geometry.specs.Axes.{two-or-three, coords-of}
+use Rattle.geometry.specs.Axes.{coords-of}
 use Rattle.grid.specs.declared.ContainerKey.{ContainerKey}
 use Rattle.grid.specs.declared.Located.{Located}
 use Rattle.grid.specs.declared.Located.the-variants.{Key, Exceeds}
@@ -112,29 +111,17 @@ module _ (s : GridSearch) (p : List Float) (n : ℕ) (l : List ℕ) (h : 1 ≤ n
 abbrev pub signed : Float → Float → ℕ → Float
 signed t x c = cond (eqb (c % 2) 0) (x ⊖ t) (x ⊕ t)
 
--- the two or three coordinates of a corner are the definition's, by computation
-pub corner-is : (t : Float) (x : Position) (c : ℕ) (a b d : Float) → a ≡ signed t (x .x) c → b ≡ signed t (x .y) (c / 2) → d ≡ signed t (x .z) (c / 2 / 2)
-    → (n : ℕ) → dimension n ≡ true → coords n (record { x = a; y = b; z = d }) ≡ corner t (coords n x) c
+-- the coordinates of a corner along the first n axes are the definition's
+take-corner : (t : Float) (n : ℕ) (xs : List Float) (c : ℕ) → take n (corner t xs c) ≡ corner t (take n xs) c
 unfolding corner
-corner-is t x c a b d p q r n h = go (two-or-three n h)
-  where
-    go : (n ≡ 2) ⊎ (n ≡ 3) → coords n (record { x = a; y = b; z = d }) ≡ corner t (coords n x) c
-    go (inl e) = rw (e, p, q)
-    go (inr e) = rw (e, p, q, r)
+take-corner t zero xs c = refl
+take-corner t (suc n) [] c = refl
+take-corner t (suc n) (x ∷ xs) c = rw (take-corner t n xs (c / 2))
 
-pub length-coords : (n : ℕ) (p : Position) → dimension n ≡ true → length (coords n p) ≡ n
-length-coords n p h = go (two-or-three n h)
-  where
-    go : (n ≡ 2) ⊎ (n ≡ 3) → length (coords n p) ≡ n
-    go (inl e) = rw e
-    go (inr e) = rw e
-
-pub corners-most : (n : ℕ) → dimension n ≡ true → 2 ^ n ≤ 8
-corners-most n h = go (two-or-three n h)
-  where
-    go : (n ≡ 2) ⊎ (n ≡ 3) → 2 ^ n ≤ 8
-    go (inl e) = rw e (omega arith)
-    go (inr e) = rw e (omega arith)
+pub corner-is : (t : Float) (x : Position) (c : ℕ) (a b d : Float) → a ≡ signed t (x .x) c → b ≡ signed t (x .y) (c / 2) → d ≡ signed t (x .z) (c / 2 / 2)
+    → (n : ℕ) → coords n (record { x = a; y = b; z = d }) ≡ corner t (coords n x) c
+unfolding corner
+corner-is t x c a b d p q r n = rw (p, q, r) (take-corner t n (x .x ∷ x .y ∷ x .z ∷ []) c)
 
 -- ---- the walk over the halo, from the position's own container on
 

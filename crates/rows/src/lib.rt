@@ -152,7 +152,7 @@ pub fn position_fault(sheet: GridSearch, x: &[f64]) -> u64
 }
 
 // A coordinate of a halo corner: below x where the last of the corner's digits is 0, and above where it is 1.
-fn shifted(x: f64, tolerance: f64, digits: u64) -> f64
+fn shifted(x: f64, tolerance: f64, digits: usize) -> f64
     ensures { λ r. ⌜ r ≡ cond (eqb (digits % 2) 0) (x ⊖ tolerance) (x ⊕ tolerance) ⌝ }
 {
     if digits % 2 == 0 {
@@ -163,7 +163,7 @@ fn shifted(x: f64, tolerance: f64, digits: u64) -> f64
 }
 
 // Corner c of the halo around x.
-fn halo_corner(x: Position, tolerance: f64, c: u64) -> Position
+fn halo_corner(x: Position, tolerance: f64, c: usize) -> Position
     ensures { λ r. ⌜ ((n : ℕ) → dimension n ≡ true → coords n r ≡ corner tolerance (coords n x) c) ⌝ }
 {
     Position {
@@ -194,14 +194,6 @@ fn add_target(sheet: GridSearch, into: &mut [u64], n: usize, point: Position) ->
     n + 1
 }
 
-// How many corners a halo has.
-fn corner_count(ndim: usize) -> u64
-    requires { ⌜ dimension ndim ≡ true ⌝ }
-    ensures { λ r. ⌜ r ≡ 2 ^ ndim ⌝ }
-{
-    if ndim == 2 { 4 } else { 8 }
-}
-
 // The containers that a mark goes into, each once: that of x, and those of the halo corners that fall within the sheet.
 // Returns how many there are, or 0 where a ratio of one of these points exceeds its divisions.
 fn find_targets(sheet: GridSearch, into: &mut [u64], x: Position) -> usize
@@ -216,7 +208,7 @@ fn find_targets(sheet: GridSearch, into: &mut [u64], x: Position) -> usize
     into[0] = key.0;
     let given = sheet.tolerance;
     let tolerance = grid_search::tolerance_in_force(given);
-    let corners = corner_count(ndim);
+    let corners = geometry::corner_count(ndim);
     let mut n = 1;
     let mut c = 0;
     while c < corners {

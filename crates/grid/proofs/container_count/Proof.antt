@@ -3,13 +3,13 @@ use native.Mathlib.Omega.{arith}
 use native.Mathlib.Nat.{mul-one, mul-assoc}
 use mathlib.Core.Path.{sym, _∙_}
 use Rattle.grid.specs.Containers.{containers}
-use Rattle.grid.specs.Bounds.{Bounds, bounds, two-small, three-small}
-use Rattle.grid.specs.InUse.{divided, containers-are}
+use Rattle.grid.specs.Bounds.{Bounds, two-small, three-small}
+use Rattle.grid.specs.InUse.{sized, containers-are}
 use Rattle.grid.proofs.container_count.Statement.{statement}
 use Rattle.grid.proofs.container_count.Tie as tie
 
 sizes : (c : tie.After-in-use) → Bounds (c .in-use .result)
-sizes c = let s = c .before in bounds (c .in-use .result) (divided (s .args .ndim) (s .pre .0) (s .args .ndiv) (c .in-use .result) (c .in-use .ensures) (s .pre .1))
+sizes c = let s = c .before in sized (s .args .ndim) (s .pre .0) (s .args .ndiv) (c .in-use .result) (c .in-use .ensures) (s .pre .1)
 
 in-use-requires : tie.Need-in-use-requires
 in-use-requires c κs = c .pre .0

@@ -3,14 +3,14 @@ use native.Mathlib.Nat.{mul-pos}
 use native.Mathlib.Omega.{arith}
 use mathlib.Core.Path.{sym, _∙_, subst}
 use Rattle.grid.specs.Containers.{pivots}
-use Rattle.grid.specs.Bounds.{Bounds, bounds, two-small}
-use Rattle.grid.specs.InUse.{divided, containers-are, pivots-are}
+use Rattle.grid.specs.Bounds.{Bounds, two-small}
+use Rattle.grid.specs.InUse.{sized, containers-are, pivots-are}
 use Rattle.grid.proofs.Flat.{second-index, third-index}
 use Rattle.grid.proofs.pivot_indices.Statement.{statement}
 use Rattle.grid.proofs.pivot_indices.Tie as tie
 
 sizes : (c : tie.After-in-use) → Bounds (c .in-use .result)
-sizes c = let s = c .before in bounds (c .in-use .result) (divided (s .args .ndim) (s .pre .0) (s .args .ndiv) (c .in-use .result) (c .in-use .ensures) (s .pre .1 .0))
+sizes c = let s = c .before in sized (s .args .ndim) (s .pre .0) (s .args .ndiv) (c .in-use .result) (c .in-use .ensures) (s .pre .1 .0)
 
 in-use-requires : tie.Need-in-use-requires
 in-use-requires c κs = c .pre .0

@@ -2,7 +2,7 @@
 use native.Mathlib.Omega.{arith}
 use mathlib.Core.Path.{_∙_}
 use borrow.Author.Needs.{needs}
-use Rattle.mesh.proofs.Whole.{few-axes}
+use Rattle.geometry.specs.Axes.{few-axes}
 use Rattle.mesh.proofs.Boxes.{triangle-is, tetrahedron-is}
 use Rattle.mesh.specs.Mesh.{meshOf, cornerPoints}
 use Rattle.geometry.specs.Axes.{three}

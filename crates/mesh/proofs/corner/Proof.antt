@@ -4,9 +4,9 @@ use native.Mathlib.Omega.{arith}
 use mathlib.Core.Path.{sym, ap, _∙_}
 use lib.ListN.{getD}
 use borrow.Author.Needs.{needs}
-use Rattle.mesh.proofs.Whole.{few-axes, corner-in, names-point, point-in, length-point, corner-at}
+use Rattle.mesh.proofs.Whole.{corner-in, names-point, point-in, length-point, corner-at}
 use Rattle.mesh.specs.Mesh.{meshOf, pointAt}
-use Rattle.geometry.specs.Axes.{coords-of}
+use Rattle.geometry.specs.Axes.{few-axes, coords-of}
 use Rattle.mesh.proofs.corner.Statement.{statement}
 use Rattle.mesh.proofs.corner.Tie as tie
 

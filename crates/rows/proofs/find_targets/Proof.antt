@@ -2,7 +2,8 @@
 -- Assumes nothing.
 use mathlib.Core.Option.{Option}
 use mathlib.Core.List.{List}
-use Rattle.rows.proofs.Targets.{walk-again, look-none, corners-most}
+use Rattle.geometry.specs.Axes.{coords-length, corners-most}
+use Rattle.rows.proofs.Targets.{walk-again, look-none}
 use Rattle.grid_search.specs.Sheet.{toleranceOf}
 use lib.Ieee.{Float}
 use mathlib.Core.Path.{refl}
@@ -14,7 +15,7 @@ use lib.ListN.{length, take, drop, length-set}
 use Rattle.geometry.specs.Position.{coords}
 use Rattle.rows.specs.Insert.{halo}
 use Rattle.rows.specs.Posts.{lookAll, front}
-use Rattle.rows.proofs.Targets.{located-key, located-not, walk-start, walk-exceeds, walk-end, length-coords, front-some}
+use Rattle.rows.proofs.Targets.{located-key, located-not, walk-start, walk-exceeds, walk-end, front-some}
 use borrow.Author.Needs.{needs}
 use native.Mathlib.Omega.{arith}
 use Rattle.rows.proofs.find_targets.Statement.{statement}
@@ -82,7 +83,7 @@ returns-2 c =
     let after-add-target = c .before .before .before in
     record {
       most = search needs;
-      found = sym (look-none (start .args .sheet) (drop ((at-loop .loop .c) + 1) (halo (after-tolerance-in-force .tolerance-in-force .result) (coords (start .args .sheet .ndim) (start .args .x))))) ∙ ap (λ (k : ℕ). lookAll (start .args .sheet) (front k (after-add-target .add-target .last .1 .0)) (drop ((at-loop .loop .c) + 1) (halo (after-tolerance-in-force .tolerance-in-force .result) (coords (start .args .sheet .ndim) (start .args .x))))) (sym (c .if1 .taken)) ∙ sym (walk-again (start .args .sheet) (after-tolerance-in-force .tolerance-in-force .result) (coords (start .args .sheet .ndim) (start .args .x)) (at-loop .loop .c) (take (at-loop .loop .n) (at-loop .loop .into)) (omega (arith, c .before .before .before .before .before .before .loop-test .taken, c .before .before .before .before .before .before .before .before .corner-count .ensures, ap (λ (k : ℕ). 2 ^ k) (length-coords (start .args .sheet .ndim) (start .args .x) (start .pre .0 .axes)))) (c .before .before .before .before .halo-corner .ensures (start .args .sheet .ndim) (start .pre .0 .axes)) refl (after-add-target .add-target .ensures)) ∙ at-loop .loop .inv .4 ∙ ap (λ (t : Float). lookAll (start .args .sheet) (some []) ((coords (start .args .sheet .ndim) (start .args .x)) ∷ halo t (coords (start .args .sheet .ndim) (start .args .x)))) (after-tolerance-in-force .tolerance-in-force .ensures);
+      found = sym (look-none (start .args .sheet) (drop ((at-loop .loop .c) + 1) (halo (after-tolerance-in-force .tolerance-in-force .result) (coords (start .args .sheet .ndim) (start .args .x))))) ∙ ap (λ (k : ℕ). lookAll (start .args .sheet) (front k (after-add-target .add-target .last .1 .0)) (drop ((at-loop .loop .c) + 1) (halo (after-tolerance-in-force .tolerance-in-force .result) (coords (start .args .sheet .ndim) (start .args .x))))) (sym (c .if1 .taken)) ∙ sym (walk-again (start .args .sheet) (after-tolerance-in-force .tolerance-in-force .result) (coords (start .args .sheet .ndim) (start .args .x)) (at-loop .loop .c) (take (at-loop .loop .n) (at-loop .loop .into)) (omega (arith, c .before .before .before .before .before .before .loop-test .taken, c .before .before .before .before .before .before .before .before .corner-count .ensures, ap (λ (k : ℕ). 2 ^ k) (coords-length (start .args .sheet .ndim) (start .args .x) (start .pre .0 .axes)))) (c .before .before .before .before .halo-corner .ensures (start .args .sheet .ndim) (start .pre .0 .axes)) refl (after-add-target .add-target .ensures)) ∙ at-loop .loop .inv .4 ∙ ap (λ (t : Float). lookAll (start .args .sheet) (some []) ((coords (start .args .sheet .ndim) (start .args .x)) ∷ halo t (coords (start .args .sheet .ndim) (start .args .x)))) (after-tolerance-in-force .tolerance-in-force .ensures);
     }
 
 add-c : tie.Need-add-c Inv-loop μ-loop
@@ -99,7 +100,7 @@ loop-again c =
     let in-loop = c .before .before .before .before .before .before in
     let after-add-target = c .before .before .before in
     let pos : 1 ≤ (after-add-target .add-target .result) = positive (after-add-target .add-target .result) (c .if1 .left) in
-    (omega (arith, in-loop .loop-test .taken), pos, omega (arith, at-loop .loop .inv .2, after-add-target .add-target .ensures .most), after-add-target .add-target .kept .1 .0 ∙ at-loop .loop .inv .3, ap (λ (o : Option (List ℕ)). lookAll (start .args .sheet) o (drop ((at-loop .loop .c) + 1) (halo (after-tolerance-in-force .tolerance-in-force .result) (coords (start .args .sheet .ndim) (start .args .x))))) (sym (front-some (after-add-target .add-target .result) (after-add-target .add-target .last .1 .0) pos)) ∙ sym (walk-again (start .args .sheet) (after-tolerance-in-force .tolerance-in-force .result) (coords (start .args .sheet .ndim) (start .args .x)) (at-loop .loop .c) (take (at-loop .loop .n) (at-loop .loop .into)) (omega (arith, in-loop .loop-test .taken, c .before .before .before .before .before .before .before .before .corner-count .ensures, ap (λ (k : ℕ). 2 ^ k) (length-coords (start .args .sheet .ndim) (start .args .x) (start .pre .0 .axes)))) (c .before .before .before .before .halo-corner .ensures (start .args .sheet .ndim) (start .pre .0 .axes)) refl (after-add-target .add-target .ensures)) ∙ at-loop .loop .inv .4)
+    (omega (arith, in-loop .loop-test .taken), pos, omega (arith, at-loop .loop .inv .2, after-add-target .add-target .ensures .most), after-add-target .add-target .kept .1 .0 ∙ at-loop .loop .inv .3, ap (λ (o : Option (List ℕ)). lookAll (start .args .sheet) o (drop ((at-loop .loop .c) + 1) (halo (after-tolerance-in-force .tolerance-in-force .result) (coords (start .args .sheet .ndim) (start .args .x))))) (sym (front-some (after-add-target .add-target .result) (after-add-target .add-target .last .1 .0) pos)) ∙ sym (walk-again (start .args .sheet) (after-tolerance-in-force .tolerance-in-force .result) (coords (start .args .sheet .ndim) (start .args .x)) (at-loop .loop .c) (take (at-loop .loop .n) (at-loop .loop .into)) (omega (arith, in-loop .loop-test .taken, c .before .before .before .before .before .before .before .before .corner-count .ensures, ap (λ (k : ℕ). 2 ^ k) (coords-length (start .args .sheet .ndim) (start .args .x) (start .pre .0 .axes)))) (c .before .before .before .before .halo-corner .ensures (start .args .sheet .ndim) (start .pre .0 .axes)) refl (after-add-target .add-target .ensures)) ∙ at-loop .loop .inv .4)
 
 same-length-2 : tie.Need-same-length-2 Inv-loop μ-loop
 same-length-2 c = c .before .loop .inv .3 ∙ length-set (c .before .before .before .before .before .before .before .before .before .args .into .now) 0 (c .before .before .before .before .before .place .given .0 .0 .0)
@@ -111,7 +112,7 @@ returns-3 c =
     let after-corner-count = c .before .before in
     record {
       most = omega (arith, c .before .loop .inv .0, c .before .loop .inv .2, c .before .loop .inv .3, start .pre .1 .1, corners-most (start .args .sheet .ndim) (start .pre .0 .axes), after-corner-count .corner-count .ensures, length-set (start .args .into .now) 0 (c .before .before .before .before .before .place .given .0 .0 .0));
-      found = front-some (c .before .loop .n) (c .before .loop .into) (c .before .loop .inv .1) ∙ sym (walk-end (start .args .sheet) (after-tolerance-in-force .tolerance-in-force .result) (coords (start .args .sheet .ndim) (start .args .x)) (c .before .loop .c) (take (c .before .loop .n) (c .before .loop .into)) (omega (arith, c .loop-test .left, after-corner-count .corner-count .ensures, ap (λ (k : ℕ). 2 ^ k) (length-coords (start .args .sheet .ndim) (start .args .x) (start .pre .0 .axes))))) ∙ c .before .loop .inv .4 ∙ ap (λ (t : Float). lookAll (start .args .sheet) (some []) ((coords (start .args .sheet .ndim) (start .args .x)) ∷ halo t (coords (start .args .sheet .ndim) (start .args .x)))) (after-tolerance-in-force .tolerance-in-force .ensures);
+      found = front-some (c .before .loop .n) (c .before .loop .into) (c .before .loop .inv .1) ∙ sym (walk-end (start .args .sheet) (after-tolerance-in-force .tolerance-in-force .result) (coords (start .args .sheet .ndim) (start .args .x)) (c .before .loop .c) (take (c .before .loop .n) (c .before .loop .into)) (omega (arith, c .loop-test .left, after-corner-count .corner-count .ensures, ap (λ (k : ℕ). 2 ^ k) (coords-length (start .args .sheet .ndim) (start .args .x) (start .pre .0 .axes))))) ∙ c .before .loop .inv .4 ∙ ap (λ (t : Float). lookAll (start .args .sheet) (some []) ((coords (start .args .sheet .ndim) (start .args .x)) ∷ halo t (coords (start .args .sheet .ndim) (start .args .x)))) (after-tolerance-in-force .tolerance-in-force .ensures);
     }
 
 pub find-targets-spec : {M : Type 1} → statement M

@@ -1,5 +1,4 @@
--- `halo_corner` meets its contract: the two and the three coordinates are those of the definition, by computation.
--- Assumes nothing.
+-- `halo_corner` meets its contract. Assumes nothing.
 use Rattle.rows.proofs.Targets.{corner-is}
 use borrow.Author.Needs.{needs}
 use Rattle.rows.proofs.halo_corner.Statement.{statement}
@@ -18,7 +17,7 @@ returns : tie.Need-returns
 returns c =
     let start = c .before .before .before in
     let after-shifted = c .before .before in
-    corner-is (start .args .tolerance) (start .args .x) (start .args .c) (after-shifted .shifted .result) (c .before .shifted2 .result) (c .shifted3 .result) (after-shifted .shifted .ensures) (c .before .shifted2 .ensures) (c .shifted3 .ensures)
+    λ n h. corner-is (start .args .tolerance) (start .args .x) (start .args .c) (after-shifted .shifted .result) (c .before .shifted2 .result) (c .shifted3 .result) (after-shifted .shifted .ensures) (c .before .shifted2 .ensures) (c .shifted3 .ensures) n
 
 pub halo-corner-spec : {M : Type 1} → statement M
 halo-corner-spec =
