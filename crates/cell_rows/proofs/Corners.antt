@@ -1,16 +1,15 @@
 -- The walk over the corners of a box that gathers the keys of their containers.
 -- Assumes nothing.
-use Prim.Native.Nat.{ℕ, zero, suc, _+_, _^_, _≤_, _<_}
-use native.Mathlib.Nat.{le-trans, lt-of-lt-of-le, mul-le-mul, pow-succ'}
+use Prim.Native.Nat.{ℕ, zero, suc, _+_, _/_, _^_, _≤_, _<_}
+use native.Mathlib.Nat.{lt-of-lt-of-le}
 use native.Mathlib.Numerals.{add-one}
 use native.Mathlib.Omega.{arith}
 use mathlib.Core.Path.{_≡_, refl, sym, ap, ap₂, _∙_}
-use mathlib.Core.Logic.{_⊎_, inl, inr}
 use mathlib.Core.Bool.{Bool, true, false}
 use mathlib.Core.List.{List, [], _∷_, _++_, map}
 use lib.Dec.{ltb}
 use lib.ListN.{length, take, drop, set, length-set, drop-of-length-le}
-use lib.Seq.{take-nil, take-suc-set}
+use lib.Seq.{take-suc-set}
 use lib.Ieee.{Float}
 use borrow.Author.Tests.{lt-ltb}
 use Rattle.basics.specs.Bools.{by-test, both, and-left, and-right}
@@ -18,12 +17,12 @@ use Rattle.basics.specs.Lists.{all, any, has}
 use Rattle.basics.specs.Laws.{length-tab, drop-tab}
 use Rattle.geometry.specs.declared.Position.{Position}
 use Rattle.geometry.specs.Position.{coords, dimension}
-use Rattle.geometry.specs.Axes.{two-or-three, coords-length}
+use Rattle.geometry.specs.Axes.{for-axes, coords-length}
 use Rattle.grid.specs.declared.ContainerKey.{ContainerKey}
 use Rattle.grid.specs.declared.Located.the-variants.{Key, Exceeds}
-use Rattle.grid.specs.Divisions.{counts, division}
-use Rattle.grid.specs.Containers.{ratios, containers}
-use Rattle.grid.specs.Bounds.{first-of, rest-of}
+use Rattle.grid.specs.Divisions.{counts, divisionsOf}
+use Rattle.grid.specs.Containers.{ratios}
+use Rattle.grid.specs.InUse.{few-containers}
 use Rattle.grid.specs.Keys.{key-below}
 use Rattle.mesh.specs.declared.BoundingBox.{BoundingBox}
 use Rattle.mesh.specs.Mesh.{Box, boxed}
@@ -53,27 +52,14 @@ is-far g x e = by-test (overshoots g x) (λ t. t) (λ t. never (sym (rw t at e))
 abbrev pub small : ℕ → Bool
 small k = ltb k 1073741824
 
-few-containers : (ns : List ℕ) → all division ns ≡ true → containers ns ≤ 1024 ^ length ns
-unfolding containers
-few-containers [] h = omega arith
-few-containers (n ∷ ns) h = rw (pow-succ' 1024 (length ns)) (mul-le-mul (first-of n ns h .most) (few-containers ns (rest-of n ns h)))
-
 pub key-small : (g : Containers) (x : Position) → Divided g → overshoots g (coords (g .ndim) x) ≡ false → small (cellKey g (coords (g .ndim) x)) ≡ true
 unfolding cellKey overshoots
 key-small g x d e =
     let ns = counts (g .ndim) (g .ndiv) in
     lt-ltb _ 1073741824
     (lt-of-lt-of-le
-    (key-below ns (g .«side_length») (coords (g .ndim) (g .xmin)) (coords (g .ndim) x) (go (two-or-three (g .ndim) (d .axes))) (d .divisions) e)
-    (le-trans (few-containers ns (d .divisions)) (most (two-or-three (g .ndim) (d .axes)))))
-  where
-    go : (g .ndim ≡ 2) ⊎ (g .ndim ≡ 3) → length (ratios (g .«side_length») (coords (g .ndim) (g .xmin)) (coords (g .ndim) x)) ≡ length (counts (g .ndim) (g .ndiv))
-    go (inl e) = rw e
-    go (inr e) = rw e
-
-    most : (g .ndim ≡ 2) ⊎ (g .ndim ≡ 3) → 1024 ^ length (counts (g .ndim) (g .ndiv)) ≤ 1073741824
-    most (inl e) = rw e (omega arith)
-    most (inr e) = rw e (omega arith)
+    (key-below ns (g .«side_length») (coords (g .ndim) (g .xmin)) (coords (g .ndim) x) (for-axes (λ n. length (ratios (g .«side_length») (coords n (g .xmin)) (coords n x)) ≡ length (counts n (g .ndiv))) refl refl (g .ndim) (d .axes)) (d .divisions) e)
+    (few-containers (g .ndim) (d .axes) (g .ndiv) (divisionsOf ns) refl (d .divisions)))
 
 all-append : (p : ℕ → Bool) (xs ys : List ℕ) → all p xs ≡ true → all p ys ≡ true → all p (xs ++ ys) ≡ true
 unfolding all
@@ -96,23 +82,16 @@ join-new l n k z h e = record { size = rw (length-set l n k) z; most = omega ari
 
 -- ---- corners
 
-three : (n : ℕ) (p : Position) → coords (suc (suc (suc n))) p ≡ coords 3 p
-three n p = ap (λ (l : List Float). p .x ∷ p .y ∷ p .z ∷ l) (take-nil n)
+-- along the first n axes
+take-corner : (n : ℕ) (los his : List Float) (c : ℕ) → take n (boxCorner los his c) ≡ boxCorner (take n los) (take n his) c
+unfolding boxCorner
+take-corner zero los his c = refl
+take-corner (suc n) [] his c = refl
+take-corner (suc n) (a ∷ los) [] c = refl
+take-corner (suc n) (a ∷ los) (b ∷ his) c = rw (take-corner n los his (c / 2))
 
 pub corner-axes : (n : ℕ) (lo hi : Position) (c : ℕ) (x y z : Float) → x ∷ y ∷ z ∷ [] ≡ boxCorner (coords 3 lo) (coords 3 hi) c → coords n (record { x = x; y = y; z = z }) ≡ boxCorner (coords n lo) (coords n hi) c
-unfolding boxCorner
-corner-axes zero lo hi c x y z e = refl
-corner-axes (suc zero) lo hi c x y z e = ap (take 1) e
-corner-axes (suc (suc zero)) lo hi c x y z e = ap (take 2) e
-corner-axes (suc (suc (suc n))) lo hi c x y z e =
-    three n (record { x = x; y = y; z = z }) ∙ e ∙ ap₂ (λ (l h : List Float). boxCorner l h c) (sym (three n lo)) (sym (three n hi))
-
-pub eight : (n : ℕ) → dimension n ≡ true → 2 ^ n ≤ 8
-eight n h = go (two-or-three n h)
-  where
-    go : (n ≡ 2) ⊎ (n ≡ 3) → 2 ^ n ≤ 8
-    go (inl e) = rw e (omega arith)
-    go (inr e) = rw e (omega arith)
+corner-axes n lo hi c x y z e = ap (take n) e ∙ take-corner n (coords 3 lo) (coords 3 hi) c
 
 -- what is known once the corners before number c are passed
 pub record Walked (g : Containers) (n : ℕ) (b : BoundingBox) (c k : ℕ) (keys : List ℕ) : Type 0 where

@@ -3,44 +3,26 @@
 use Prim.Native.Nat.{ℕ, zero, suc, _+_, _≤_, _<_}
 use native.Mathlib.Numerals.{add-one}
 use native.Mathlib.Omega.{arith}
-use mathlib.Core.Path.{_≡_, ap, _∙_}
-use mathlib.Core.Logic.{_⊎_, inl, inr}
-use mathlib.Core.Bool.{Bool, true, false, _&&_, _||_, and-true}
+use mathlib.Core.Path.{_≡_, refl, ap, _∙_}
+use mathlib.Core.Bool.{Bool, true, false, _||_}
 use mathlib.Core.List.{List, [], _∷_}
-use lib.Dec.{eqb}
-use lib.ListN.{length, drop, set, drop-of-length-le}
+use lib.ListN.{length, take, drop, drop-of-length-le}
 use lib.Ieee.{Float, lt, le}
 use Rattle.geometry.specs.declared.Position.{Position}
-use Rattle.basics.specs.Lists.{over}
+use Rattle.basics.specs.Lists.{all, zipWith}
 use Rattle.geometry.specs.Position.{coords, positionOf, axisOf, dimension}
-use Rattle.geometry.specs.Axes.{two-or-three, coords-length, coords-of}
-use Rattle.geometry.specs.declared.Zeta.{Zeta}
-use Rattle.geometry.specs.Cells.{zetas}
+use Rattle.geometry.specs.Axes.{axis-at, coords-length, coords-of}
 use Rattle.grid.specs.Containers.{outside}
 use Rattle.grid_cells.specs.declared.GridCells.{GridCells}
 use Rattle.cell_search.specs.Search.{ordered}
 
-pub ordered-axes : (n : ℕ) (a b : Position) → dimension n ≡ true → (le (a .x) (b .x) && (le (a .y) (b .y) && (eqb n 2 || le (a .z) (b .z)))) ≡ ordered (coords n a) (coords n b)
-unfolding ordered
-ordered-axes n a b h = go (two-or-three n h)
-  where
-    go : (n ≡ 2) ⊎ (n ≡ 3) → (le (a .x) (b .x) && (le (a .y) (b .y) && (eqb n 2 || le (a .z) (b .z)))) ≡ ordered (coords n a) (coords n b)
-    go (inl e) = rw (e, and-true)
-    go (inr e) = rw (e, and-true)
-
--- ---- the coordinates from axis i on
-
-axis-at : (n i : ℕ) (p : Position) → dimension n ≡ true → i < n → drop i (coords n p) ≡ axisOf i p ∷ drop (suc i) (coords n p)
-axis-at n i p h k = go i k (two-or-three n h)
-  where
-    go : (i : ℕ) → i < n → (n ≡ 2) ⊎ (n ≡ 3) → drop i (coords n p) ≡ axisOf i p ∷ drop (suc i) (coords n p)
-    go zero k (inl e) = rw e
-    go (suc zero) k (inl e) = rw e
-    go (suc (suc i)) k (inl e) = absurd (omega arith)
-    go zero k (inr e) = rw e
-    go (suc zero) k (inr e) = rw e
-    go (suc (suc zero)) k (inr e) = rw e
-    go (suc (suc (suc i))) k (inr e) = absurd (omega arith)
+-- ordered on every axis, by the test along each
+pub ordered-tests : (n : ℕ) (los his : List Float) → ordered (take n los) (take n his) ≡ all (λ (b : Bool). b) (take n (zipWith le los his))
+unfolding ordered all zipWith
+ordered-tests zero los his = refl
+ordered-tests (suc n) [] his = refl
+ordered-tests (suc n) (a ∷ los) [] = refl
+ordered-tests (suc n) (a ∷ los) (b ∷ his) = rw (ordered-tests n los his)
 
 -- a position is outside a box by an axis from i on
 unfoldable pub outsideFrom : ℕ → Position → Position → Position → ℕ → Bool
@@ -67,24 +49,3 @@ module _ (n : ℕ) (low high x : Position) (h : dimension n ≡ true) (i : ℕ) 
 pub outside-list : (g : GridCells) (x : List Float) (p : Position) → dimension (g .ndim) ≡ true → length x ≡ g .ndim → p ≡ positionOf x
     → outside (coords (g .ndim) (g .xmin)) (coords (g .ndim) (g .xmax)) (coords (g .ndim) p) ≡ outside (coords (g .ndim) (g .xmin)) (coords (g .ndim) (g .xmax)) x
 outside-list g x p h l e = ap (λ (y : List Float). outside (coords (g .ndim) (g .xmin)) (coords (g .ndim) (g .xmax)) y) (coords-of (g .ndim) x p h l e)
-
--- ---- the coordinates in the lent list
-
-pub wrote-three : (n : ℕ) (z : Zeta) (l : List Float) → dimension n ≡ true → (n ≡ 3 → ⊥) → length l ≡ 4 → set (set (set l 0 (z .0)) 1 (z .1)) 2 (z .2) ≡ over (zetas (n + 1) z) l
-unfolding over
-wrote-three n z l h k e = go l e (two-or-three n h)
-  where
-    go : (l : List Float) → length l ≡ 4 → (n ≡ 2) ⊎ (n ≡ 3) → set (set (set l 0 (z .0)) 1 (z .1)) 2 (z .2) ≡ over (zetas (n + 1) z) l
-    go l e (inr f) = absurd (k f)
-    go [] e (inl f) = absurd (omega arith)
-    go (a ∷ []) e (inl f) = absurd (omega arith)
-    go (a ∷ b ∷ []) e (inl f) = absurd (omega arith)
-    go (a ∷ b ∷ c ∷ l) e (inl f) = rw f
-
-pub wrote-four : (n : ℕ) (z : Zeta) (l : List Float) → n ≡ 3 → length l ≡ 4 → set (set (set (set l 0 (z .0)) 1 (z .1)) 2 (z .2)) 3 (z .3) ≡ over (zetas (n + 1) z) l
-unfolding over
-wrote-four n z [] f e = absurd (omega arith)
-wrote-four n z (a ∷ []) f e = absurd (omega arith)
-wrote-four n z (a ∷ b ∷ []) f e = absurd (omega arith)
-wrote-four n z (a ∷ b ∷ c ∷ []) f e = absurd (omega arith)
-wrote-four n z (a ∷ b ∷ c ∷ d ∷ l) f e = rw f

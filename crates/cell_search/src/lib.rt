@@ -46,11 +46,11 @@ fn write_zeta(ndim: usize, z: Zeta, zeta: &mut [f64])
     requires { ⌜ dimension ndim ≡ true ⌝ ∗ ⌜ length (now zeta) ≡ 4 ⌝ }
     ensures { λ _. ⌜ now (zeta .exit) ≡ over (listed (ndim + 1) z) (now (zeta .entry)) ⌝ }
 {
-    zeta[0] = z.0;
-    zeta[1] = z.1;
-    zeta[2] = z.2;
-    if ndim == 3 {
-        zeta[3] = z.3;
+    let all = [z.0, z.1, z.2, z.3];
+    let mut i = 0;
+    while i <= ndim {
+        zeta[i] = all[i];
+        i += 1;
     }
 }
 

@@ -1,4 +1,4 @@
--- Ways through tests: which part of `||` and `&&` decides; a test of each division; and refusals one after the other.
+-- Ways through tests: which part of `||` and `&&` decides; what the tests of divisions say; and refusals one after the other.
 -- Assumes nothing.
 use Prim.Native.Nat.{ℕ, _≤_}
 use native.Mathlib.Omega.{arith}
@@ -12,10 +12,7 @@ use borrow.Author.Tests.{eqb-false, ltb-false, le-leb}
 use Rattle.basics.specs.Bools.{which, both, or-left, or-right, and-left, and-right}
 use Rattle.basics.specs.Lists.{all, any}
 use Rattle.basics.specs.Refusals.{Test, fault, code}
-use Rattle.geometry.specs.Position.{dimension}
-use Rattle.geometry.specs.Axes.{two-or-three}
-use Rattle.grid.specs.declared.Divisions.{Divisions}
-use Rattle.grid.specs.Divisions.{counts, division}
+use Rattle.grid.specs.Divisions.{division}
 use Rattle.cell_sizes.specs.declared.Settings.{Settings}
 use Rattle.grid_cells.specs.Build.{finiteSettings, pastLimits, settingsOk}
 

@@ -3,7 +3,8 @@ use Prim.Native.Nat.{_≤_, _-_}
 use native.Mathlib.Omega.{arith}
 use mathlib.Core.Path.{sym, _∙_}
 use borrow.Author.Needs.{needs}
-use Rattle.cell_rows.proofs.Corners.{key-small, eight, Walked, walk-start, walk-next, walk-far, walk-end, is-key, is-far}
+use Rattle.geometry.specs.Axes.{corners-most}
+use Rattle.cell_rows.proofs.Corners.{key-small, Walked, walk-start, walk-next, walk-far, walk-end, is-key, is-far}
 use Rattle.geometry.specs.Position.{coords}
 use Rattle.cell_rows.proofs.corner_keys.Statement.{statement}
 use Rattle.cell_rows.proofs.corner_keys.Tie as tie
@@ -41,7 +42,7 @@ returns c = let s = c .before .before .before .before .before .before .before in
     (is-far g (coords (g .ndim) (x .result)) (sym (c .before .before .container .ensures) ∙ c .enum-told .given .1))
 
 join-once-requires : tie.Need-join-once-requires Inv-loop μ-loop
-join-once-requires c κs = let s = c .before .before .before .before .before .before .before .before .before in let l = c .before .before .before .before .before .before .before .loop in (l .inv .1 .size, omega (arith, eight (s .args .grid .ndim) (s .pre .0 .axes), c .before .before .before .before .before .before .before .before .corner-count .ensures, l .inv .1 .few, c .before .before .before .before .before .before .loop-test .taken))
+join-once-requires c κs = let s = c .before .before .before .before .before .before .before .before .before in let l = c .before .before .before .before .before .before .before .loop in (l .inv .1 .size, omega (arith, corners-most (s .args .grid .ndim) (s .pre .0 .axes), c .before .before .before .before .before .before .before .before .corner-count .ensures, l .inv .1 .few, c .before .before .before .before .before .before .loop-test .taken))
 
 add-c : tie.Need-add-c Inv-loop μ-loop
 add-c c = search needs
@@ -64,7 +65,7 @@ returns-2 : tie.Need-returns-2 Inv-loop μ-loop
 returns-2 c = let s = c .before .before .before in
     let l = c .before .loop in
     let g = s .args .grid in
-    walk-end g (g .ndim) (s .args .b) (s .pre .0 .axes) (l .c) (l .n) (l .keys) (l .inv .1) (omega (arith, c .before .before .corner-count .ensures, c .loop-test .left)) (omega (arith, eight (g .ndim) (s .pre .0 .axes), c .before .before .corner-count .ensures, l .inv .0, l .inv .1 .few))
+    walk-end g (g .ndim) (s .args .b) (s .pre .0 .axes) (l .c) (l .n) (l .keys) (l .inv .1) (omega (arith, c .before .before .corner-count .ensures, c .loop-test .left)) (omega (arith, corners-most (g .ndim) (s .pre .0 .axes), c .before .before .corner-count .ensures, l .inv .0, l .inv .1 .few))
 
 pub corner-keys-spec : {M : Type 1} → statement M
 corner-keys-spec =

@@ -1,5 +1,6 @@
 -- `cell_search::refusals::corner_ok` meets its contract. Assumes nothing.
-use Rattle.geometry.specs.Axes.{all-coords}
+use mathlib.Core.List.{[], _∷_}
+use Rattle.geometry.specs.Axes.{all-tests}
 use Rattle.cell_search.specs.Search.{cornerLimit}
 use borrow.Author.Needs.{needs}
 use Rattle.cell_search.proofs.refusals.corner_ok.Statement.{statement}
@@ -14,9 +15,12 @@ is-corner-requires-2 c κs = search needs
 is-corner-requires-3 : tie.Need-is-corner-requires-3
 is-corner-requires-3 c κs = search needs
 
+on-every-axis-requires : tie.Need-on-every-axis-requires
+on-every-axis-requires c κs = search needs
+
 returns : tie.Need-returns
-returns c = let s = c .before .before .before in cc (all-coords cornerLimit (s .args .ndim) (s .args .p) (s .pre))
+returns c = let p = c .before .before .before .before .args .p in cc (all-tests cornerLimit (c .before .before .before .before .args .ndim) (p .x ∷ p .y ∷ p .z ∷ []))
 
 pub corner-ok-spec : {M : Type 1} → statement M
 corner-ok-spec =
-    tie.close (tie.spec is-corner-requires is-corner-requires-2 is-corner-requires-3 returns)
+    tie.close (tie.spec is-corner-requires is-corner-requires-2 is-corner-requires-3 on-every-axis-requires returns)

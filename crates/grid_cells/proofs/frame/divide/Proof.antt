@@ -1,6 +1,10 @@
 -- `grid_cells::frame::divide` meets its contract. Assumes nothing.
+use mathlib.Core.List.{[], _∷_}
+use lib.Ieee.{Float}
 use borrow.Author.Needs.{needs}
-use Rattle.geometry.specs.Axes.{three}
+use Rattle.basics.specs.Lists.{take-zip}
+use Rattle.floats.specs.Rounded.{_⊖_, _⊘_, truncate}
+use Rattle.floats.specs.Ceil.{ceilOf}
 use Rattle.grid_cells.specs.Build.{cellDivisions}
 use Rattle.grid_cells.proofs.frame.divide.Statement.{statement}
 use Rattle.grid_cells.proofs.frame.divide.Tie as tie
@@ -11,16 +15,18 @@ divisions-along-requires c κs = search needs
 divisions-along-requires-2 : tie.Need-divisions-along-requires-2
 divisions-along-requires-2 c κs = search needs
 
-returns : tie.Need-returns
-unfolding cellDivisions
-returns c = rw (c .if1 .taken, c .before .before .divisions-along .ensures, c .before .divisions-along2 .ensures)
-
 divisions-along-requires-3 : tie.Need-divisions-along-requires-3
 divisions-along-requires-3 c κs = search needs
 
-returns-2 : tie.Need-returns-2
+in-use-requires : tie.Need-in-use-requires
+in-use-requires c κs = search needs
+
+returns : tie.Need-returns
 unfolding cellDivisions
-returns-2 c = rw (three (c .before .before .before .before .args .ndim) (c .before .before .before .before .pre) (c .before .if1 .left), c .before .before .before .divisions-along .ensures, c .before .before .divisions-along2 .ensures, c .divisions-along3 .ensures)
+returns c =
+    let a = c .before .before .before .before .args in
+    rw (← take-zip (λ (y x : Float). truncate (ceilOf ((y ⊖ x) ⊘ a .side-length))) (a .ndim) (a .xmax .x ∷ a .xmax .y ∷ a .xmax .z ∷ []) (a .xmin .x ∷ a .xmin .y ∷ a .xmin .z ∷ []), ← c .before .before .before .divisions-along .ensures, ← c .before .before .divisions-along2 .ensures, ← c .before .divisions-along3 .ensures)
+    (c .in-use .ensures)
 
 pub divide-spec : {M : Type 1} → statement M
 divide-spec =
@@ -28,6 +34,6 @@ divide-spec =
     (tie.spec
     divisions-along-requires
     divisions-along-requires-2
-    returns
     divisions-along-requires-3
-    returns-2)
+    in-use-requires
+    returns)
