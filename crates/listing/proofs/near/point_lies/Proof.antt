@@ -3,9 +3,10 @@ use native.Mathlib.Omega.{arith}
 use mathlib.Core.Bool.{false}
 use mathlib.Core.Path.{_≡_, ap, _∙_, subst}
 use Rattle.floats.specs.Rounded.{_⊖_}
+use Rattle.floats.specs.Sqrt.{sqrtOf}
 use Rattle.floats.specs.Tests.{absOf}
 use Rattle.geometry.specs.Position.{coords, axisOf}
-use Rattle.geometry.specs.Distances.{pointCircle, pointCylinder}
+use Rattle.geometry.specs.Distances.{pointPoint, pointLine, pointCircle, pointCylinder}
 use Rattle.listing.specs.Place.{plane, asked, placeDistance, unfit}
 use Rattle.listing.specs.declared.Place.{Place}
 use Rattle.listing.specs.declared.Place.the-variants as place
@@ -64,14 +65,14 @@ is-within-requires-3 : tie.Need-is-within-requires-3
 is-within-requires-3 c κs = search needs
 
 returns : tie.Need-returns
-unfolding asked placeDistance told
+unfolding asked placeDistance told pointLine
 returns c =
     let a = c .before .before .before .before in
-    let d : told (a .args .place) (c .before .line-square .result) ≡ placeDistance (asked (a .args .ndim) (a .args .place)) (coords (a .args .ndim) (a .args .x)) = rw (c .before .before .enum-told .given .1) (c .before .line-square .ensures _ _ (rw (c .before .before .enum-told .given .1) at (a .pre .1 .1 .0))) in
+    let d : told (a .args .place) (c .before .line-square .result) ≡ placeDistance (asked (a .args .ndim) (a .args .place)) (coords (a .args .ndim) (a .args .x)) = rw (c .before .before .enum-told .given .1) (ap sqrtOf (c .before .line-square .ensures _ _ (rw (c .before .before .enum-told .given .1) at (a .pre .1 .1 .0)))) in
     c .square-lies .ensures ∙ ap (lies (a .args .w .from) (a .args .w .to)) d
 
 returns-2 : tie.Need-returns-2
-unfolding asked placeDistance told pointCircle
+unfolding asked placeDistance told pointCircle pointPoint
 returns-2 c =
     let a = c .before .before .before .before .before in
     let t = c .before .before .before .place .given in
@@ -79,7 +80,7 @@ returns-2 c =
     c .square-lies2 .ensures ∙ ap (lies (a .args .w .from) (a .args .w .to)) d
 
 returns-3 : tie.Need-returns-3
-unfolding asked placeDistance told pointCylinder
+unfolding asked placeDistance told pointCylinder pointLine
 returns-3 c =
     let a = c .before .before .before .before in
     let d : told (a .args .place) (c .before .line-square2 .result) ≡ placeDistance (asked (a .args .ndim) (a .args .place)) (coords (a .args .ndim) (a .args .x)) = rw (c .before .before .enum-told2 .given .1, c .before .line-square2 .ensures _ _ (rw (c .before .before .enum-told2 .given .1) at (a .pre .1 .1 .0))) in
