@@ -5,7 +5,7 @@ use native.Mathlib.Nat.{lt-of-lt-of-le}
 use native.Mathlib.Omega.{arith}
 use mathlib.Core.Path.{_≡_, refl, sym, ap, _∙_, subst}
 use mathlib.Core.Logic.{_⊎_, inl, inr}
-use mathlib.Core.Bool.{Bool, true, not, _&&_, _||_, and-true, or-false}
+use mathlib.Core.Bool.{Bool, true, cond, not, _&&_, _||_, and-true, or-false}
 use mathlib.Core.List.{List, [], _∷_, map}
 use lib.Dec.{eqb}
 use lib.ListN.{length, take, drop, getD}
@@ -59,6 +59,10 @@ pub axis-last : (i : ℕ) (p : Position) → (i ≡ 0 → ⊥) → (i ≡ 1 → 
 axis-last zero p h k = absurd (h refl)
 axis-last (suc zero) p h k = absurd (k refl)
 axis-last (suc (suc i)) p h k = refl
+
+-- a position made from the first coordinates has +0 on an axis that is not in use
+pub padded : (n : ℕ) (x y z : Float) → dimension n ≡ true → record { x = x; y = y; z = cond (eqb n 3) z zeroF } ≡ positionOf (take n (x ∷ y ∷ z ∷ []))
+padded n x y z h = for-axes (λ n. record { x = x; y = y; z = cond (eqb n 3) z zeroF } ≡ positionOf (take n (x ∷ y ∷ z ∷ []))) refl refl n h
 
 -- the coordinate on an axis in use is the list's entry
 pub axis-entry : (n i : ℕ) (p : Position) → dimension n ≡ true → i < n → getD (coords n p) i zeroF ≡ axisOf i p

@@ -5,7 +5,8 @@ use native.Mathlib.Omega.{arith}
 use mathlib.Core.Path.{_≡_, refl, ap, _∙_}
 use mathlib.Core.Bool.{true, cond}
 use mathlib.Core.List.{List, [], _∷_}
-use lib.ListN.{length}
+use lib.Dec.{eqb}
+use lib.ListN.{length, take}
 use lib.Ieee.{Float}
 use Rattle.basics.specs.Lists.{all, zipWith}
 use Rattle.geometry.specs.declared.Position.{Position}
@@ -56,6 +57,10 @@ module _ (n : ℕ) (h : dimension n ≡ true) (d e : Divisions) (u : e ≡ divis
       (for-axes
       (λ n. let N = counts 3 (divisionsOf (counts n d)) in let R = indices 3 (pivotOf (ratios side (coords n xmin) (coords n x))) in located (counts n d) side (coords n xmin) (coords n x) ≡ cond (exceed N R) Exceeds (Key (record { 0 = combine N (zipWith inner N R) })))
       refl refl n h)
+
+-- ---- ratios and indices as a record: 0 along an axis that is not in use
+pub padded : (n i j k : ℕ) → dimension n ≡ true → record { i = i; j = j; k = cond (eqb n 3) k 0 } ≡ pivotOf (take n (i ∷ j ∷ k ∷ []))
+padded n i j k h = for-axes (λ n. record { i = i; j = j; k = cond (eqb n 3) k 0 } ≡ pivotOf (take n (i ∷ j ∷ k ∷ []))) refl refl n h
 
 -- ---- the indices of a key
 pivots-length : (ns : List ℕ) (key : ℕ) → length (pivots ns key) ≡ length ns

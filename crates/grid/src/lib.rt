@@ -2,10 +2,10 @@
 // centre. From gemlab's `util/num_divisions.rs`, `util/calc_container_key.rs` and the methods of `GridSearch`.
 ghost use Prim.Native.Nat.{_^_, _≤_, _<_};
 ghost use mathlib.Core.Path.{_≡_};
-ghost use mathlib.Core.Bool.{true, _||_};
+ghost use mathlib.Core.Bool.{true, cond, _||_};
 ghost use lib.Ieee.{lt};
 ghost use Rattle.basics.specs.Lists.{all};
-ghost use Rattle.floats.specs.Rounded.{_⊕_, _⊖_, _⊗_, _⊘_, ofNat, truncate, pow2};
+ghost use Rattle.floats.specs.Rounded.{_⊕_, _⊖_, _⊗_, _⊘_, ofNat, truncate, pow2, zeroF};
 ghost use Rattle.geometry.specs.Position.{coords, positionOf, dimension};
 ghost use Rattle.grid.specs.Divisions.{counts, divisionsOf, division, longer as longerOf, longest as longestOf, share as shareOf, numDivisions};
 ghost use Rattle.grid.specs.Containers.{outside, ratios as ratiosOf, inner as innerOf, combine, located, containers, indices, pivotOf, pivots, centre};
@@ -52,23 +52,6 @@ impl Divisions {
                 x: self.x,
                 y: self.y,
                 z: 1,
-            };
-        }
-        self
-    }
-}
-
-impl Pivot {
-    // The indices with 0 along an axis that is not in use.
-    fn in_use(self, ndim: usize) -> Pivot
-        requires { ⌜ dimension ndim ≡ true ⌝ }
-        ensures { λ r. ⌜ r ≡ pivotOf (indices ndim self) ⌝ }
-    {
-        if ndim == 2 {
-            return Pivot {
-                i: self.i,
-                j: self.j,
-                k: 0,
             };
         }
         self
@@ -180,24 +163,27 @@ pub fn is_outside(ndim: usize, xmin: Position, xmax: Position, x: Position) -> b
     )
 }
 
-// How many whole sides x lies above the low end.
-fn ratio(side_length: f64, xmin: f64, x: f64) -> u64
-    ensures { λ r. ⌜ r ≡ truncate ((x ⊖ xmin) ⊘ «side_length») ⌝ }
+// How many whole sides x lies above the low end, and 0 on an axis that is not in use.
+fn ratio(in_use: bool, side_length: f64, xmin: f64, x: f64) -> u64
+    ensures { λ r. ⌜ r ≡ cond «in_use» (truncate ((x ⊖ xmin) ⊘ «side_length»)) 0 ⌝ }
 {
-    floats::truncated((x - xmin) / side_length)
+    if in_use {
+        floats::truncated((x - xmin) / side_length)
+    } else {
+        0
+    }
 }
 
-// The ratio along each axis, and 0 along one that is not in use.
+// The ratio along each axis.
 fn ratios(ndim: usize, side_length: f64, xmin: Position, x: Position) -> Pivot
     requires { ⌜ dimension ndim ≡ true ⌝ }
     ensures { λ r. ⌜ r ≡ pivotOf (ratiosOf «side_length» (coords ndim xmin) (coords ndim x)) ⌝ }
 {
-    let ratios = Pivot {
-        i: ratio(side_length, xmin.x, x.x),
-        j: ratio(side_length, xmin.y, x.y),
-        k: ratio(side_length, xmin.z, x.z),
-    };
-    ratios.in_use(ndim)
+    Pivot {
+        i: ratio(true, side_length, xmin.x, x.x),
+        j: ratio(true, side_length, xmin.y, x.y),
+        k: ratio(ndim == 3, side_length, xmin.z, x.z),
+    }
 }
 
 // The index of a ratio that does not exceed its divisions: on the high edge the last one.
@@ -263,12 +249,16 @@ pub fn pivot_indices(ndim: usize, ndiv: Divisions, key: ContainerKey) -> Pivot
     }
 }
 
-// The middle of the container with index i along an axis.
-fn middle(side_length: f64, xmin: f64, i: u64) -> f64
+// The middle of the container with index i along an axis, and +0 on an axis that is not in use.
+fn middle(in_use: bool, side_length: f64, xmin: f64, i: u64) -> f64
     requires { ⌜ i ≤ 2 ^ 53 ⌝ }
-    ensures { λ r. ⌜ r ≡ xmin ⊕ ofNat i ⊗ «side_length» ⊕ «side_length» ⊘ pow2 1 ⌝ }
+    ensures { λ r. ⌜ r ≡ cond «in_use» (xmin ⊕ ofNat i ⊗ «side_length» ⊕ «side_length» ⊘ pow2 1) zeroF ⌝ }
 {
-    xmin + (i as f64) * side_length + side_length / 2.0
+    if in_use {
+        xmin + (i as f64) * side_length + side_length / 2.0
+    } else {
+        0.0
+    }
 }
 
 // The centre of a container.
@@ -283,10 +273,9 @@ pub fn container_center(
     ensures { λ r. ⌜ r ≡ positionOf (centre «side_length» (coords ndim xmin) (pivots (counts ndim ndiv) (key .0))) ⌝ }
 {
     let pivot = pivot_indices(ndim, ndiv, key);
-    let center = Position {
-        x: middle(side_length, xmin.x, pivot.i),
-        y: middle(side_length, xmin.y, pivot.j),
-        z: middle(side_length, xmin.z, pivot.k),
-    };
-    center.in_use(ndim)
+    Position {
+        x: middle(true, side_length, xmin.x, pivot.i),
+        y: middle(true, side_length, xmin.y, pivot.j),
+        z: middle(ndim == 3, side_length, xmin.z, pivot.k),
+    }
 }

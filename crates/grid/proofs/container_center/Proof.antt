@@ -4,8 +4,9 @@ use native.Mathlib.Omega.{arith}
 use mathlib.Core.List.{[], _∷_}
 use lib.Ieee.{Float}
 use borrow.Author.Needs.{needs}
-use Rattle.basics.specs.Lists.{take-zip}
+use Rattle.basics.specs.Lists.{zipWith, take-zip}
 use Rattle.floats.specs.Rounded.{_⊕_, _⊗_, _⊘_, ofNat, pow2}
+use Rattle.geometry.specs.Axes.{padded}
 use Rattle.grid.specs.Containers.{centre}
 use Rattle.grid.specs.InUse.{Small, small, indices-are}
 use Rattle.grid.proofs.container_center.Statement.{statement}
@@ -29,17 +30,14 @@ middle-requires-2 c κs = wide (few (c .before) .j)
 middle-requires-3 : tie.Need-middle-requires-3
 middle-requires-3 c κs = wide (few (c .before .before) .k)
 
-in-use-requires : tie.Need-in-use-requires
-in-use-requires c κs = c .before .before .before .before .pre .0
-
 returns : tie.Need-returns
-unfolding centre
+unfolding centre zipWith
 returns c =
-    let s = c .before .before .before .before .before in
+    let s = c .before .before .before .before in
     let a = s .args in
-    let p = c .before .before .before .before .pivot-indices in
-    rw (← indices-are (a .ndim) (s .pre .0) (a .ndiv) (a .key .0) (p .result) (p .ensures), ← take-zip (λ (x : Float) (i : ℕ). x ⊕ ofNat i ⊗ a .side-length ⊕ a .side-length ⊘ pow2 1) (a .ndim) (a .xmin .x ∷ a .xmin .y ∷ a .xmin .z ∷ []) (p .result .i ∷ p .result .j ∷ p .result .k ∷ []), ← c .before .before .before .middle .ensures, ← c .before .before .middle2 .ensures, ← c .before .middle3 .ensures)
-    (c .in-use .ensures)
+    let p = c .before .before .before .pivot-indices in
+    rw (← indices-are (a .ndim) (s .pre .0) (a .ndiv) (a .key .0) (p .result) (p .ensures), ← take-zip (λ (x : Float) (i : ℕ). x ⊕ ofNat i ⊗ a .side-length ⊕ a .side-length ⊘ pow2 1) (a .ndim) (a .xmin .x ∷ a .xmin .y ∷ a .xmin .z ∷ []) (p .result .i ∷ p .result .j ∷ p .result .k ∷ []), c .before .before .middle .ensures, c .before .middle2 .ensures, c .middle3 .ensures)
+    (padded (a .ndim) _ _ _ (s .pre .0))
 
 pub container-center-spec : {M : Type 1} → statement M
 container-center-spec =
@@ -49,5 +47,4 @@ container-center-spec =
     middle-requires
     middle-requires-2
     middle-requires-3
-    in-use-requires
     returns)
