@@ -1,14 +1,17 @@
--- The Rust's formulas for a key and for its indices, which have a term or a quotient for each axis, are the recursive ones; and a position is outside where it is along some axis. Assumes nothing.
+-- The Rust's formulas for a key and for its indices, which have a term or a quotient for each axis, are the recursive ones; what an index along an axis says of its ratio; and a position is outside where it is along some axis. Assumes nothing.
 use Prim.Native.Nat.{ℕ, zero, suc, _+_, _*_, _/_, _%_, _<_}
 use native.Mathlib.Nat.{mul-zero, add-zero, mul-one, mul-comm, mul-assoc, mul-add, mul-pos, mod-lt, mod-eq-of-lt, div-eq-of-lt, div-div-eq-div-mul, div-lt-iff-lt-mul, mod-add-div, add-mul-mod-self-left, add-mul-div-left, zero-add}
 use native.Mathlib.Omega.{arith}
 use mathlib.Core.Path.{_≡_, refl, sym, ap, _∙_, subst}
-use mathlib.Core.Bool.{Bool, _||_}
+use mathlib.Core.Bool.{Bool, true, false, _||_}
 use mathlib.Core.List.{List, [], _∷_}
+use lib.Dec.{ltb}
 use lib.ListN.{take}
 use lib.Ieee.{Float, lt}
+use Rattle.basics.specs.Bools.{by-test}
 use Rattle.basics.specs.Lists.{any}
-use Rattle.grid.specs.Containers.{outside, combine, containers}
+use Rattle.grid.specs.declared.Along.the-variants as axis
+use Rattle.grid.specs.Containers.{outside, inner, along, combine, containers}
 use Rattle.grid.specs.Keys.{digit}
 
 -- ---- keys
@@ -39,6 +42,24 @@ third-index x y z key X Y h =
   where
     turned : (x y z : ℕ) → x * (y * (z * 1)) ≡ z * (x * y)
     turned x y z = rw mul-one (sym (mul-assoc x y z) ∙ mul-comm (x * y) z)
+
+-- ---- the index along an axis
+pub along-far : (n r : ℕ) → along n r ≡ axis.Exceeds → ltb n r ≡ true
+unfolding along
+along-far n r e = by-test (ltb n r) (λ t. t) (λ t. never (rw t at e))
+  where
+    never : {A : Type 0} {i : ℕ} → axis.Index i ≡ axis.Exceeds → A
+    never e = let z : _≡_ {A = ℕ} 0 1 = cc in absurd (omega arith)
+
+pub along-index : (n r i : ℕ) → along n r ≡ axis.Index i → (ltb n r ≡ false) × (inner n r ≡ i)
+unfolding along
+along-index n r i e = by-test (ltb n r) (λ t. never (rw t at e)) (λ t. (t, same (rw t at e)))
+  where
+    never : {A : Type 0} {i : ℕ} → axis.Exceeds ≡ axis.Index i → A
+    never e = let z : _≡_ {A = ℕ} 0 1 = cc in absurd (omega arith)
+
+    same : axis.Index (inner n r) ≡ axis.Index i → inner n r ≡ i
+    same f = cc
 
 -- ---- outside, by the test along each axis
 -- whether each coordinate lies below the low end or above the high one

@@ -1,6 +1,6 @@
 -- Module 4: the container of a position, and back from a container's key to its indices and centre. One definition serves any number of axes.
 -- Assumes nothing.
-use Prim.Native.Nat.{ℕ, _+_, _-_, _*_, _/_, _%_}
+use Prim.Native.Nat.{ℕ, _+_, _-_, _*_, _/_, _%_, _<_}
 use mathlib.Core.Bool.{Bool, false, cond, _||_}
 use mathlib.Core.List.{List, [], _∷_}
 use lib.Dec.{ltb, eqb}
@@ -8,6 +8,8 @@ use lib.ListN.{take, getD}
 use lib.Ieee.{Float, lt}
 use Rattle.basics.specs.Lists.{zipWith}
 use Rattle.floats.specs.Rounded.{_⊕_, _⊖_, _⊗_, _⊘_, ofNat, truncate, pow2}
+use Rattle.grid.specs.declared.Along.{Along}
+use Rattle.grid.specs.declared.Along.the-variants as axis
 use Rattle.grid.specs.declared.Located.{Located}
 use Rattle.grid.specs.declared.Located.the-variants.{Key, Exceeds}
 use Rattle.grid.specs.declared.Pivot.{Pivot}
@@ -34,6 +36,16 @@ exceed (n ∷ ns) [] = false
 -- a ratio equal to its divisions drops by one
 unfoldable pub inner : ℕ → ℕ → ℕ
 inner n r = cond (eqb r n) (r - 1) r
+
+-- the index of a ratio along an axis, or that it exceeds the divisions
+unfoldable pub along : ℕ → ℕ → Along
+unfolding inner
+along n r = cond (ltb n r) axis.Exceeds (axis.Index (inner n r))
+
+-- an index is below the divisions
+abbrev pub Fits : ℕ → Along → Type 0
+Fits n axis.Exceeds = Unit {0}
+Fits n (axis.Index i) = i < n
 
 -- i + j·n0 + k·n0·n1, as i + n0·(j + n1·k)
 unfoldable pub combine : List ℕ → List ℕ → ℕ

@@ -6,9 +6,10 @@ use mathlib.Core.Path.{_≡_, refl, ap, _∙_}
 use mathlib.Core.Bool.{true, cond}
 use mathlib.Core.List.{List, [], _∷_}
 use lib.Dec.{eqb}
-use lib.ListN.{length, take}
+use lib.ListN.{length}
 use lib.Ieee.{Float}
 use Rattle.basics.specs.Lists.{all, zipWith}
+use Rattle.floats.specs.Rounded.{_⊖_, _⊘_, truncate}
 use Rattle.geometry.specs.declared.Position.{Position}
 use Rattle.geometry.specs.Position.{coords, dimension}
 use Rattle.geometry.specs.Axes.{for-axes, entries-of}
@@ -48,19 +49,20 @@ module _ (n : ℕ) (h : dimension n ≡ true) (d e : Divisions) (u : e ≡ divis
   unfolding pivots
   pivots-are key = rw u (for-axes (λ n. pivotOf (pivots (counts 3 (divisionsOf (counts n d))) key) ≡ pivotOf (pivots (counts n d) key)) (rw mod-one) refl n h)
 
-  -- a position falls into the same container
-  pub located-is : (side : Float) (xmin x : Position) (r : Pivot) → r ≡ pivotOf (ratios side (coords n xmin) (coords n x))
-      → located (counts n d) side (coords n xmin) (coords n x) ≡ cond (exceed (counts 3 e) (indices 3 r)) Exceeds (Key (record { 0 = combine (counts 3 e) (zipWith inner (counts 3 e) (indices 3 r)) }))
+  -- a position falls into the same container, its ratio along the third axis being 0 in 2D
+  pub located-is : (side : Float) (xmin x : Position)
+      → let t : Float → Float → ℕ = λ (a b : Float). truncate ((a ⊖ b) ⊘ side) in
+      let rs = t (x .x) (xmin .x) ∷ t (x .y) (xmin .y) ∷ cond (eqb n 3) (t (x .z) (xmin .z)) 0 ∷ [] in
+      located (counts n d) side (coords n xmin) (coords n x) ≡ cond (exceed (counts 3 e) rs) Exceeds (Key (record { 0 = combine (counts 3 e) (zipWith inner (counts 3 e) rs) }))
   unfolding located keyOf ratios exceed combine zipWith inner
-  located-is side xmin x r v =
-      rw (u, v)
+  located-is side xmin x =
+      rw u
       (for-axes
-      (λ n. let N = counts 3 (divisionsOf (counts n d)) in let R = indices 3 (pivotOf (ratios side (coords n xmin) (coords n x))) in located (counts n d) side (coords n xmin) (coords n x) ≡ cond (exceed N R) Exceeds (Key (record { 0 = combine N (zipWith inner N R) })))
+      (λ n. let t : Float → Float → ℕ = λ (a b : Float). truncate ((a ⊖ b) ⊘ side) in
+      let ns = counts 3 (divisionsOf (counts n d)) in
+      let rs = t (x .x) (xmin .x) ∷ t (x .y) (xmin .y) ∷ cond (eqb n 3) (t (x .z) (xmin .z)) 0 ∷ [] in
+      located (counts n d) side (coords n xmin) (coords n x) ≡ cond (exceed ns rs) Exceeds (Key (record { 0 = combine ns (zipWith inner ns rs) })))
       refl refl n h)
-
--- ---- ratios and indices as a record: 0 along an axis that is not in use
-pub padded : (n i j k : ℕ) → dimension n ≡ true → record { i = i; j = j; k = cond (eqb n 3) k 0 } ≡ pivotOf (take n (i ∷ j ∷ k ∷ []))
-padded n i j k h = for-axes (λ n. record { i = i; j = j; k = cond (eqb n 3) k 0 } ≡ pivotOf (take n (i ∷ j ∷ k ∷ []))) refl refl n h
 
 -- ---- the indices of a key
 pivots-length : (ns : List ℕ) (key : ℕ) → length (pivots ns key) ≡ length ns

@@ -8,7 +8,7 @@ ghost use Rattle.basics.specs.Lists.{all};
 ghost use Rattle.floats.specs.Rounded.{_⊕_, _⊖_, _⊗_, _⊘_, ofNat, truncate, pow2, zeroF};
 ghost use Rattle.geometry.specs.Position.{coords, positionOf, dimension};
 ghost use Rattle.grid.specs.Divisions.{counts, divisionsOf, division, longer as longerOf, longest as longestOf, share as shareOf, numDivisions};
-ghost use Rattle.grid.specs.Containers.{outside, ratios as ratiosOf, inner as innerOf, combine, located, containers, indices, pivotOf, pivots, centre};
+ghost use Rattle.grid.specs.Containers.{outside, inner as innerOf, along, Fits, combine, located, containers, indices, pivotOf, pivots, centre};
 ghost use Rattle.grid.specs.Keys.{Below};
 use geometry::Position;
 
@@ -31,6 +31,12 @@ pub struct Longest {
 // The container that a position falls into, or that a ratio exceeds its divisions.
 pub enum Located {
     Key(ContainerKey),
+    Exceeds,
+}
+
+// The index of a container along an axis, or that the ratio exceeds its divisions.
+enum Along {
+    Index(u64),
     Exceeds,
 }
 
@@ -163,27 +169,11 @@ pub fn is_outside(ndim: usize, xmin: Position, xmax: Position, x: Position) -> b
     )
 }
 
-// How many whole sides x lies above the low end, and 0 on an axis that is not in use.
-fn ratio(in_use: bool, side_length: f64, xmin: f64, x: f64) -> u64
-    ensures { λ r. ⌜ r ≡ cond «in_use» (truncate ((x ⊖ xmin) ⊘ «side_length»)) 0 ⌝ }
+// How many whole sides x lies above the low end.
+fn ratio(side_length: f64, xmin: f64, x: f64) -> u64
+    ensures { λ r. ⌜ r ≡ truncate ((x ⊖ xmin) ⊘ «side_length») ⌝ }
 {
-    if in_use {
-        floats::truncated((x - xmin) / side_length)
-    } else {
-        0
-    }
-}
-
-// The ratio along each axis.
-fn ratios(ndim: usize, side_length: f64, xmin: Position, x: Position) -> Pivot
-    requires { ⌜ dimension ndim ≡ true ⌝ }
-    ensures { λ r. ⌜ r ≡ pivotOf (ratiosOf «side_length» (coords ndim xmin) (coords ndim x)) ⌝ }
-{
-    Pivot {
-        i: ratio(true, side_length, xmin.x, x.x),
-        j: ratio(true, side_length, xmin.y, x.y),
-        k: ratio(ndim == 3, side_length, xmin.z, x.z),
-    }
+    floats::truncated((x - xmin) / side_length)
 }
 
 // The index of a ratio that does not exceed its divisions: on the high edge the last one.
@@ -194,6 +184,21 @@ fn inner(n: u64, ratio: u64) -> u64
     if ratio == n { ratio - 1 } else { ratio }
 }
 
+// The index of the container that x falls into along an axis: 0 on an axis that is not in use.
+fn index_along(in_use: bool, n: u64, side_length: f64, xmin: f64, x: f64) -> Along
+    requires { ⌜ 1 ≤ n ⌝ }
+    ensures { λ r. ⌜ r ≡ along n (cond «in_use» (truncate ((x ⊖ xmin) ⊘ «side_length»)) 0) ⌝ ∗ ⌜ Fits n r ⌝ }
+{
+    if !in_use {
+        return Along::Index(0);
+    }
+    let r = ratio(side_length, xmin, x);
+    if r > n {
+        return Along::Exceeds;
+    }
+    Along::Index(inner(n, r))
+}
+
 // The key of the container with these indices.
 fn combined(ndiv: Divisions, pivot: Pivot) -> u64
     requires { ⌜ all division (counts 3 ndiv) ≡ true ⌝ ∗ ⌜ Below (counts 3 ndiv) (indices 3 pivot) ⌝ }
@@ -202,7 +207,7 @@ fn combined(ndiv: Divisions, pivot: Pivot) -> u64
     pivot.i + pivot.j * ndiv.x + pivot.k * ndiv.x * ndiv.y
 }
 
-// The container that a position falls into. In 2D the third axis, with one division and the ratio 0, adds nothing.
+// The container that a position falls into. In 2D the third axis, with one division and the index 0, adds nothing.
 pub fn calc_container_key(
     ndim: usize,
     side_length: f64,
@@ -214,16 +219,16 @@ pub fn calc_container_key(
     ensures { λ r. ⌜ r ≡ located (counts ndim ndiv) «side_length» (coords ndim xmin) (coords ndim x) ⌝ }
 {
     let n = ndiv.in_use(ndim);
-    let r = ratios(ndim, side_length, xmin, x);
-    if (r.i > n.x) | ((r.j > n.y) | (r.k > n.z)) {
+    let Along::Index(i) = index_along(true, n.x, side_length, xmin.x, x.x) else {
         return Located::Exceeds;
-    }
-    let pivot = Pivot {
-        i: inner(n.x, r.i),
-        j: inner(n.y, r.j),
-        k: inner(n.z, r.k),
     };
-    Located::Key(ContainerKey(combined(n, pivot)))
+    let Along::Index(j) = index_along(true, n.y, side_length, xmin.y, x.y) else {
+        return Located::Exceeds;
+    };
+    let Along::Index(k) = index_along(ndim == 3, n.z, side_length, xmin.z, x.z) else {
+        return Located::Exceeds;
+    };
+    Located::Key(ContainerKey(combined(n, Pivot { i, j, k })))
 }
 
 // How many containers there are.

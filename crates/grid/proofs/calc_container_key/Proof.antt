@@ -1,16 +1,13 @@
 -- `grid::calc_container_key` meets its contract. Assumes nothing.
-use mathlib.Core.Path.{_≡_, sym, _∙_}
-use mathlib.Core.Bool.{true, false, or-false}
-use mathlib.Core.List.{[], _∷_}
-use lib.Dec.{ltb}
+use mathlib.Core.Path.{_≡_, sym, _∙_, subst}
+use mathlib.Core.Bool.{true}
 use borrow.Author.Needs.{needs}
-use borrow.Author.Tests.{ltb-false}
-use Rattle.basics.specs.Bools.{or-left, or-right}
 use Rattle.basics.specs.Lists.{all, zipWith}
 use Rattle.grid.specs.Divisions.{counts, division}
-use Rattle.grid.specs.Containers.{exceed, indices}
+use Rattle.grid.specs.Containers.{exceed, Fits}
 use Rattle.grid.specs.Bounds.{Bounds, bounds}
 use Rattle.grid.specs.InUse.{divided, located-is}
+use Rattle.grid.proofs.Flat.{along-far, along-index}
 use Rattle.grid.proofs.calc_container_key.Statement.{statement}
 use Rattle.grid.proofs.calc_container_key.Tie as tie
 
@@ -21,63 +18,103 @@ ranges c = let s = c .before in divided (s .args .ndim) (s .pre .0) (s .args .nd
 sizes : (c : tie.After-in-use) → Bounds (c .in-use .result)
 sizes c = bounds (c .in-use .result) (ranges c)
 
--- no ratio exceeds them
-record Within (c : tie.Else1) : Type 0 where
-  i : ltb (c .before .before .before .before .before .before .before .before .in-use .result .x) (c .before .before .before .before .before .before .before .ratios .result .i) ≡ false
-  j : ltb (c .before .before .before .before .before .before .before .before .in-use .result .y) (c .before .before .before .before .before .before .before .ratios .result .j) ≡ false
-  k : ltb (c .before .before .before .before .before .before .before .before .in-use .result .z) (c .before .before .before .before .before .before .before .ratios .result .k) ≡ false
-
-within : (c : tie.Else1) → Within c
-within c =
-    let n = c .before .before .before .before .before .before .before .before .in-use .result in
-    let r = c .before .before .before .before .before .before .before .ratios .result in
-    let more = or-right (ltb (n .x) (r .i)) _ (c .if1 .left) in
-    record { i = or-left (ltb (n .x) (r .i)) _ (c .if1 .left); j = or-left (ltb (n .y) (r .j)) (ltb (n .z) (r .k)) more; k = or-right (ltb (n .y) (r .j)) (ltb (n .z) (r .k)) more }
-
 in-use-requires : tie.Need-in-use-requires
 in-use-requires c κs = c .pre .0
 
-ratios-requires : tie.Need-ratios-requires
-ratios-requires c κs = c .before .pre .0
+index-along-requires : tie.Need-index-along-requires
+index-along-requires c κs = sizes c .x .least
+
+enum-known-i : tie.Need-enum-known-i
+enum-known-i c = search needs
+
+enum-told : tie.Need-enum-told
+enum-told c = search needs
 
 returns : tie.Need-returns
 unfolding exceed
 returns c =
-    let s = c .before .before .before .before .before .before .before .before .before in
-    let n = c .before .before .before .before .before .before .before .before .in-use in
-    let r = c .before .before .before .before .before .before .before .ratios in
-    sym (located-is (s .args .ndim) (s .pre .0) (s .args .ndiv) (n .result) (n .ensures) (s .args .side-length) (s .args .xmin) (s .args .x) (r .result) (r .ensures) ∙ rw (or-false, c .if1 .taken))
+    let s = c .before .before .before .before in
+    let n = c .before .before .before .in-use in
+    sym (located-is (s .args .ndim) (s .pre .0) (s .args .ndiv) (n .result) (n .ensures) (s .args .side-length) (s .args .xmin) (s .args .x)
+    ∙ rw (along-far _ _ (sym (c .before .before .index-along .ensures .0) ∙ c .enum-told .given .1)))
 
-inner-requires : tie.Need-inner-requires
-inner-requires c κs = (sizes (c .before .before .before .before .before .before .before .before) .x .least, ltb-false _ _ (within c .i))
+index-along-requires-2 : tie.Need-index-along-requires-2
+index-along-requires-2 c κs = sizes (c .before .before .before .before) .y .least
 
-inner-requires-2 : tie.Need-inner-requires-2
-inner-requires-2 c κs = (sizes (c .before .before .before .before .before .before .before .before .before) .y .least, ltb-false _ _ (within (c .before) .j))
+enum-known-j : tie.Need-enum-known-j
+enum-known-j c = search needs
 
-inner-requires-3 : tie.Need-inner-requires-3
-inner-requires-3 c κs = (sizes (c .before .before .before .before .before .before .before .before .before .before) .z .least, ltb-false _ _ (within (c .before .before) .k))
-
-combined-requires : tie.Need-combined-requires
-combined-requires c κs = (ranges (c .before .before .before .before .before .before .before .before .before .before .before), (c .before .before .inner .ensures .1, (c .before .inner2 .ensures .1, (c .inner3 .ensures .1, tt))))
+enum-told-2 : tie.Need-enum-told-2
+enum-told-2 c = search needs
 
 returns-2 : tie.Need-returns-2
-unfolding exceed zipWith
+unfolding exceed
 returns-2 c =
-    let s = c .before .before .before .before .before .before .before .before .before .before .before .before .before in
-    let n = c .before .before .before .before .before .before .before .before .before .before .before .before .in-use in
-    let r = c .before .before .before .before .before .before .before .before .before .before .before .ratios in
-    let w = within (c .before .before .before .before) in
-    sym (located-is (s .args .ndim) (s .pre .0) (s .args .ndiv) (n .result) (n .ensures) (s .args .side-length) (s .args .xmin) (s .args .x) (r .result) (r .ensures) ∙ rw (w .i, w .j, w .k, ← c .before .before .before .inner .ensures .0, ← c .before .before .inner2 .ensures .0, ← c .before .inner3 .ensures .0, c .combined .ensures))
+    let s = c .before .before .before .before .before .before .before .before in
+    let n = c .before .before .before .before .before .before .before .in-use in
+    let i = along-index _ _ _ (sym (c .before .before .before .before .before .before .index-along .ensures .0) ∙ c .before .before .before .before .i .given .1) in
+    sym (located-is (s .args .ndim) (s .pre .0) (s .args .ndiv) (n .result) (n .ensures) (s .args .side-length) (s .args .xmin) (s .args .x)
+    ∙ rw (i .0, along-far _ _ (sym (c .before .before .index-along2 .ensures .0) ∙ c .enum-told2 .given .1)))
+
+index-along-requires-3 : tie.Need-index-along-requires-3
+index-along-requires-3 c κs = sizes (c .before .before .before .before .before .before .before .before) .z .least
+
+enum-known-k : tie.Need-enum-known-k
+enum-known-k c = search needs
+
+enum-told-3 : tie.Need-enum-told-3
+enum-told-3 c = search needs
+
+returns-3 : tie.Need-returns-3
+unfolding exceed
+returns-3 c =
+    let s = c .before .before .before .before .before .before .before .before .before .before .before .before in
+    let n = c .before .before .before .before .before .before .before .before .before .before .before .in-use in
+    let i = along-index _ _ _ (sym (c .before .before .before .before .before .before .before .before .before .before .index-along .ensures .0) ∙ c .before .before .before .before .before .before .before .before .i .given .1) in
+    let j = along-index _ _ _ (sym (c .before .before .before .before .before .before .index-along2 .ensures .0) ∙ c .before .before .before .before .j .given .1) in
+    sym (located-is (s .args .ndim) (s .pre .0) (s .args .ndiv) (n .result) (n .ensures) (s .args .side-length) (s .args .xmin) (s .args .x)
+    ∙ rw (i .0, j .0, along-far _ _ (sym (c .before .before .index-along3 .ensures .0) ∙ c .enum-told3 .given .1)))
+
+combined-requires : tie.Need-combined-requires
+combined-requires c κs =
+    let n = c .before .before .before .before .before .before .before .before .before .before .before .before .in-use .result in (
+      ranges (c .before .before .before .before .before .before .before .before .before .before .before .before),
+      (
+        subst (Fits (n .x)) (c .before .before .before .before .before .before .before .before .before .i .given .1) (c .before .before .before .before .before .before .before .before .before .before .before .index-along .ensures .1),
+        (
+          subst (Fits (n .y)) (c .before .before .before .before .before .j .given .1) (c .before .before .before .before .before .before .before .index-along2 .ensures .1),
+          (subst (Fits (n .z)) (c .before .k .given .1) (c .before .before .before .index-along3 .ensures .1), tt),
+        ),
+      ),
+    )
+
+returns-4 : tie.Need-returns-4
+unfolding exceed zipWith
+returns-4 c =
+    let s = c .before .before .before .before .before .before .before .before .before .before .before .before .before .before in
+    let n = c .before .before .before .before .before .before .before .before .before .before .before .before .before .in-use in
+    let i = along-index _ _ _ (sym (c .before .before .before .before .before .before .before .before .before .before .before .before .index-along .ensures .0) ∙ c .before .before .before .before .before .before .before .before .before .before .i .given .1) in
+    let j = along-index _ _ _ (sym (c .before .before .before .before .before .before .before .before .index-along2 .ensures .0) ∙ c .before .before .before .before .before .before .j .given .1) in
+    let k = along-index _ _ _ (sym (c .before .before .before .before .index-along3 .ensures .0) ∙ c .before .before .k .given .1) in
+    sym (located-is (s .args .ndim) (s .pre .0) (s .args .ndiv) (n .result) (n .ensures) (s .args .side-length) (s .args .xmin) (s .args .x)
+    ∙ rw (i .0, j .0, k .0, i .1, j .1, k .1, c .combined .ensures))
 
 pub calc-container-key-spec : {M : Type 1} → statement M
 calc-container-key-spec =
     tie.close
     (tie.spec
     in-use-requires
-    ratios-requires
+    index-along-requires
+    enum-known-i
+    enum-told
     returns
-    inner-requires
-    inner-requires-2
-    inner-requires-3
+    index-along-requires-2
+    enum-known-j
+    enum-told-2
+    returns-2
+    index-along-requires-3
+    enum-known-k
+    enum-told-3
+    returns-3
     combined-requires
-    returns-2)
+    returns-4)
