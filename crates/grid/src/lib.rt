@@ -181,7 +181,7 @@ fn inner(n: u64, ratio: u64) -> u64
     requires { ⌜ 1 ≤ n ⌝ ∗ ⌜ ratio ≤ n ⌝ }
     ensures { λ r. ⌜ r ≡ innerOf n ratio ⌝ ∗ ⌜ r < n ⌝ }
 {
-    if ratio == n { ratio - 1 } else { ratio }
+    if ratio < n { ratio } else { n - 1 }
 }
 
 // The index of the container that x falls into along an axis: 0 on an axis that is not in use.
