@@ -1,6 +1,6 @@
 // The rows of an index: each cell that is not large is filed under the containers of its bounding box's corners. Rows are counted
 // first, then written into the lent keys as one number each, cell by cell, sorted there, and taken apart.
-ghost use Prim.Native.Nat.{ℕ, _+_, _*_, _%_, _^_, _≤_, _<_};
+ghost use Prim.Native.Nat.{ℕ, _+_, _*_, _%_, _≤_, _<_};
 ghost use mathlib.Core.Path.{_≡_};
 ghost use mathlib.Core.Bool.{true, false, cond};
 ghost use mathlib.Core.List.{map, []};

@@ -1,22 +1,15 @@
 -- What the test of divisions says of a record of them, and that products of divisions are small. Assumes nothing.
-use Prim.Native.Nat.{ℕ, _-_, _*_, _≤_, _<_}
+use Prim.Native.Nat.{ℕ, _-_, _*_, _≤_}
 use native.Mathlib.Nat.{mul-le-mul}
-use native.Mathlib.Omega.{arith}
 use mathlib.Core.Path.{_≡_}
-use mathlib.Core.Logic.{_⊎_, inl, inr}
 use mathlib.Core.Bool.{true}
 use mathlib.Core.List.{List, [], _∷_}
 use lib.Dec.{leb}
 use borrow.Author.Tests.{leb-true}
 use Rattle.basics.specs.Bools.{and-left, and-right}
 use Rattle.basics.specs.Lists.{all}
-use Rattle.geometry.specs.Position.{dimension}
-use Rattle.geometry.specs.Axes.{two-or-three}
 use Rattle.grid.specs.declared.Divisions.{Divisions}
-use Rattle.grid.specs.declared.Pivot.{Pivot}
 use Rattle.grid.specs.Divisions.{counts, division}
-use Rattle.grid.specs.Containers.{indices}
-use Rattle.grid.specs.Keys.{Below}
 
 -- from 1 to 1,024
 pub record InRange (n : ℕ) : Type 0 where

@@ -5,7 +5,6 @@ use native.Mathlib.Nat.{le-div-iff-mul-le, suc-mul}
 use native.Mathlib.Numerals.{add-one}
 use native.Mathlib.Omega.{arith}
 use mathlib.Core.Path.{_≡_}
-use mathlib.Core.Logic.{_⊎_, inl, inr}
 use mathlib.Core.Bool.{true, not}
 use mathlib.Core.List.{List, [], _∷_}
 use lib.Dec.{ltb, eqb}
@@ -16,7 +15,6 @@ use borrow.Author.Tests.{ltb-true, not-false}
 use Rattle.basics.specs.Bools.{or-right}
 use Rattle.basics.specs.Lists.{all, tab}
 use Rattle.basics.specs.Laws.{all-at, length-tab, getD-tab, map-tab}
-use Rattle.geometry.specs.Position.{dimension}
 use Rattle.geometry.specs.Axes.{few-axes}
 use Rattle.mesh.specs.Mesh.{Mesh, pointCount, cellCount, brokenMesh, Whole, pointAt, cornersOf, cornerPoints}
 

@@ -5,7 +5,6 @@ use mathlib.Core.Path.{_≡_, refl, ap, _∙_}
 use mathlib.Core.List.{List, [], _∷_}
 use lib.ListN.{length, take, getD, set, length-set}
 use lib.Ieee.{Float, nan}
-use borrow.Author.Needs.{needs}
 use Rattle.basics.specs.Lists.{over}
 use Rattle.geometry.specs.Axes.{few-axes}
 use Rattle.cell_rows.proofs.Over.{over-none, over-next}

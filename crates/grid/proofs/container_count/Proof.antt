@@ -1,7 +1,6 @@
 -- `grid::container_count` meets its contract. Assumes nothing.
 use native.Mathlib.Omega.{arith}
 use native.Mathlib.Nat.{mul-one, mul-assoc}
-use mathlib.Core.Path.{sym, _∙_}
 use Rattle.grid.specs.Containers.{containers}
 use Rattle.grid.specs.Bounds.{Bounds, two-small, three-small}
 use Rattle.grid.specs.InUse.{sized, containers-are}

@@ -1,7 +1,6 @@
 -- `grid::pivot_indices` meets its contract. Assumes nothing.
 use native.Mathlib.Nat.{mul-pos}
 use native.Mathlib.Omega.{arith}
-use mathlib.Core.Path.{sym, _∙_, subst}
 use Rattle.grid.specs.Containers.{pivots}
 use Rattle.grid.specs.Bounds.{Bounds, two-small}
 use Rattle.grid.specs.InUse.{sized, containers-are, pivots-are}
