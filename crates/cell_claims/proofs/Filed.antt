@@ -21,7 +21,7 @@ use Rattle.table.proofs.Order.{before-total}
 use Rattle.cell_sizes.specs.Large.{numbered}
 use Rattle.cell_rows.specs.declared.Containers.{Containers}
 use Rattle.cell_rows.specs.Filing.{cellKey, overshoots, boxCorner, boxCorners, enterSlot, fileCell, fileCells, overshootsBox}
-use Rattle.cell_search.specs.Search.{ascending}
+use Rattle.sorting.specs.Ascent.{ascending}
 use Rattle.cell_claims.proofs.Boxes.{Each, Good}
 
 -- ---- a slot entered among slots in order

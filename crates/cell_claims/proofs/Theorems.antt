@@ -28,7 +28,8 @@ use Rattle.cell_rows.proofs.Over.{take-over, length-over}
 use Rattle.grid_cells.specs.declared.GridCells.{GridCells}
 use Rattle.grid_cells.specs.Build.{Lent, lentTooLong, Made, make, index, containersOf, lowCorner, highCorner, cellSide, settingsOk, buildTests, settle, build}
 use Rattle.grid_cells.proofs.Ways.{divided}
-use Rattle.cell_search.specs.Search.{ascending, goodIndex, goodSlot, soundIndex, cellRows, largeCells, searchTests}
+use Rattle.sorting.specs.Ascent.{ascending}
+use Rattle.cell_search.specs.Search.{goodIndex, goodSlot, soundIndex, cellRows, largeCells, searchTests}
 use Rattle.cell_claims.specs.Claims.{inBinary64, BuiltIsSound, BuiltServes, askedTests}
 use Rattle.cell_claims.proofs.Boxes.{Each, Good, Point, Size, boxes-good, longest-size, least-point, greatest-point, each-map, each-keep}
 use Rattle.cell_claims.proofs.Frames.{Limits, limits, Sided, sided, Parts, framed, index-good}

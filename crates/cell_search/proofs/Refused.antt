@@ -21,7 +21,8 @@ use Rattle.grid.specs.Containers.{containers}
 use Rattle.mesh.specs.Mesh.{Mesh, cellCount}
 use Rattle.grid_cells.specs.declared.GridCells.{GridCells}
 use Rattle.grid_cells.specs.Build.{Lent}
-use Rattle.cell_search.specs.Search.{cellRows, largeCells, cornerLimit, ordered, ascending, goodIndex, goodSlot, soundIndex}
+use Rattle.sorting.specs.Ascent.{ascending}
+use Rattle.cell_search.specs.Search.{cellRows, largeCells, cornerLimit, ordered, goodIndex, goodSlot, soundIndex}
 use Rattle.cell_search.specs.Steps.{goodRows, goodNumbers}
 
 -- ---- a test of each entry, and of each with the next, in one walk with a flag that holds what was passed

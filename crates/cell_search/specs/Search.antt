@@ -18,6 +18,7 @@ use Rattle.grid.specs.Containers.{outside, containers}
 use Rattle.mesh.specs.Mesh.{Mesh, cellCount, meshTooLong, brokenMesh, cornerPoints}
 use Rattle.mesh.specs.Cell.{cellZeta, contains}
 use Rattle.table.specs.Rows.{Slot, sorted, slotsOf}
+use Rattle.sorting.specs.Ascent.{ascending}
 use Rattle.grid_cells.specs.declared.GridCells.{GridCells}
 use Rattle.cell_search.specs.declared.FoundCell.{FoundCell}
 use Rattle.cell_search.specs.declared.FoundCell.the-variants.{Cell, Nothing, Refused}
@@ -55,12 +56,6 @@ unfolding le
 ordered (a ∷ los) (b ∷ his) = le a b && ordered los his
 ordered [] his = true
 ordered (a ∷ los) [] = true
-
--- strictly ascending
-unfoldable pub ascending : List ℕ → Bool
-ascending [] = true
-ascending (i ∷ []) = true
-ascending (i ∷ j ∷ js) = ltb i j && ascending (j ∷ js)
 
 -- the index by itself
 unfoldable pub goodIndex : GridCells → Bool

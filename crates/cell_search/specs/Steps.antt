@@ -17,7 +17,8 @@ use Rattle.table.specs.Rows.{Slot, slotsOf, sorted, Ordered}
 use Rattle.grid_cells.specs.declared.GridCells.{GridCells}
 use Rattle.grid_cells.specs.Build.{Lent, lentTooLong}
 use Rattle.cell_search.specs.declared.Span.{Span}
-use Rattle.cell_search.specs.Search.{cellRows, largeCells, ascending}
+use Rattle.sorting.specs.Ascent.{ascending}
+use Rattle.cell_search.specs.Search.{cellRows, largeCells}
 
 -- ---- refusals, in the order of `searchTests`: 13 stands between these, and 17 after them
 

@@ -5,26 +5,30 @@ use native.Mathlib.Omega.{arith}
 use mathlib.Core.Path.{_≡_, refl, sym, _∙_, ap, subst}
 use mathlib.Core.Bool.{Bool, true, false, _&&_, and-false}
 use mathlib.Core.Logic.{_⊎_, inl, inr, ⊎-elim}
-use mathlib.Core.Option.{Option, none, some}
+use mathlib.Core.Option.{Option, none, some, Option·some-ne-none}
 use mathlib.Core.List.{List, [], _∷_, _++_}
 use lib.Dec.{ltb, leb, eqb}
 use lib.ListN.{length}
 use lib.Ieee.{Float}
-use borrow.Author.Tests.{eqb-true, eq-eqb, leb-true, leb-false}
+use borrow.Author.Tests.{eqb-true, eq-eqb, leb-true, leb-false, le-ltb}
 use Rattle.basics.specs.Bools.{by-test, clash, both, and-both, or-either, or-true}
-use Rattle.basics.specs.Lists.{any, has, over}
-use Rattle.basics.specs.Refusals.{Test, refuse, fault, refused, success, answer, fault-left, fault-right}
+use Rattle.basics.specs.Lists.{all, any, has, over}
+use Rattle.basics.specs.Refusals.{Test, refuse, fault, refused, success, answer, fault-left, fault-right, fault-stop}
 use Rattle.grid_search.specs.declared.GridSearch.{GridSearch}
 use Rattle.table.specs.declared.Row.{Row}
 use Rattle.table.specs.Rows.{idIn}
-use Rattle.rows.specs.Library.{Library, table}
+use Rattle.rows.specs.Library.{Library, table, libraryTests}
 use Rattle.search.specs.Search.{nearRows, lowest, searchTests, searchAnswer}
 use Rattle.listing.specs.declared.Filter.{Filter}
-use Rattle.listing.specs.Place.{Asked}
+use Rattle.sorting.specs.Ascent.{ascending}
+use Rattle.listing.specs.Place.{Asked, isOn, placeTests}
 use Rattle.listing.specs.Listing.{Listing, idsOn, onTests, listingTests, listOut, listing}
 use Rattle.independence.specs.Run.{isNone}
 use Rattle.independence.specs.Queries.{pass, holds, near, on}
 use Rattle.independence.specs.Claims.{Finding, Writing}
+use Rattle.independence.proofs.Lists.{used-length}
+use Rattle.independence.proofs.Ids.{ids-ascend, ids-no-more}
+use Rattle.independence.proofs.Damage.{clean, clean-fault}
 
 -- ---- the lowest id
 
@@ -155,6 +159,26 @@ before-14 ts b n e f = go (fault ts) refl
     go none g = clash (last b (sym (fault-right ts (refuse 14 b ∷ []) g) ∙ e)) f
     go (some m) g = ap isNone g
 
+-- tests that have no 14 among them do not give it, where the last does not fail
+short : Option ℕ → Bool
+short none = false
+short (some n) = eqb n 14
+
+none-short : short none ≡ false
+unfolding short
+none-short = refl
+
+never-14 : (ts : List Test) (b : Bool) → clean short ts ≡ true → b ≡ false → fault (ts ++ (refuse 14 b ∷ [])) ≡ some 14 → ⊥
+unfolding short fault
+never-14 ts b k f e = go (fault ts) refl (clean-fault short none-short ts k)
+  where
+    passes : fault (refuse 14 b ∷ []) ≡ none
+    passes = rw f
+
+    go : (o : Option ℕ) → fault ts ≡ o → short (fault ts) ≡ false → ⊥
+    go none g h = absurd (Option·some-ne-none 14 (sym e ∙ fault-right ts (refuse 14 b ∷ []) g ∙ passes))
+    go (some m) g h = let z : some m ≡ some 14 = sym (fault-stop ts (refuse 14 b ∷ []) m g) ∙ e in clash (ap short z) (ap short (sym g) ∙ h)
+
 pass-left : (us ts : List Test) → fault (us ++ ts) ≡ none → pass us ≡ true
 unfolding pass isNone
 pass-left us ts e = ap isNone (fault-left us ts e)
@@ -171,6 +195,18 @@ module _ (s : GridSearch) (l : Library) (p : Asked) (f : Filter) (lent : List �
   unfolding listing listingTests tests
   listing-is = refl
 
+  listed-ascend : ascending (idsOn s l p f) ≡ true
+  unfolding idsOn
+  listed-ascend = ids-ascend (isOn s p f) (table l)
+
+  listed-no-more : length (idsOn s l p f) ≤ l .used
+  unfolding idsOn
+  listed-no-more = omega (arith, ids-no-more (isOn s p f) (table l), used-length l)
+
+  no-14 : clean short (onTests s l p f) ≡ true
+  unfolding clean all short onTests libraryTests placeTests
+  no-14 = refl
+
   pub writing : Writing s l p f lent
   unfolding tests
   writing = record {
@@ -178,6 +214,11 @@ module _ (s : GridSearch) (l : Library) (p : Asked) (f : Filter) (lent : List �
         let d = written (fault tests) (idsOn s l p f) lent n (ap (λ (t : Listing). t .answer) (sym listing-is) ∙ e) in
         let t = pass-left (onTests s l p f) (refuse 14 (ltb (length lent) (length (idsOn s l p f))) ∷ []) (d .0) in
         (ap (λ (t : Listing). t .list) listing-is ∙ d .1, d .2, λ i. sym (on-is i ∙ ap (λ (b : Bool). b && has i (idsOn s l p f)) t));
+    ascend = listed-ascend;
+    no-more = listed-no-more;
+    long-enough = λ h e.
+        never-14 (onTests s l p f) (ltb (length lent) (length (idsOn s l p f))) no-14 (le-ltb (length lent) (length (idsOn s l p f)) (omega (arith, listed-no-more)))
+        (unwritten (fault tests) (idsOn s l p f) lent 14 (ap (λ (t : Listing). t .answer) (sym listing-is) ∙ e));
     refused-on = λ n e g i.
         let d = unwritten (fault tests) (idsOn s l p f) lent n (ap (λ (t : Listing). t .answer) (sym listing-is) ∙ e) in
         on-is i ∙ ap (λ (b : Bool). b && has i (idsOn s l p f)) (before-14 (onTests s l p f) (ltb (length lent) (length (idsOn s l p f))) n d g);

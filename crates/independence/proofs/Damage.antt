@@ -43,16 +43,20 @@ tests-kept s =
 
 -- ---- the numbers
 
--- none of the tests has the number 24 or 13
-clean : List Test → Bool
-clean ts = all (λ (t : Test). not (blames (some (t .number)))) ts
+-- none of the tests has one of the numbers meant, such as 24 and 13
+unfoldable pub clean : (Option ℕ → Bool) → List Test → Bool
+clean meant ts = all (λ (t : Test). not (meant (some (t .number)))) ts
 
-clean-fault : (ts : List Test) → clean ts ≡ true → blames (fault ts) ≡ false
-unfolding clean all fault blames
-clean-fault [] e = refl
-clean-fault (t ∷ ts) e =
-    let d = and-both (not (blames (some (t .number)))) (clean ts) e in
-    by-test (t .fails) (λ f. rw f (not-true (blames (some (t .number))) (d .0))) (λ f. rw f (clean-fault ts (d .1)))
+pub clean-fault : (meant : Option ℕ → Bool) → meant none ≡ false → (ts : List Test) → clean meant ts ≡ true → meant (fault ts) ≡ false
+unfolding clean all fault
+clean-fault meant z [] e = z
+clean-fault meant z (t ∷ ts) e =
+    let d = and-both (not (meant (some (t .number)))) (clean meant ts) e in
+    by-test (t .fails) (λ f. rw f (not-true (meant (some (t .number))) (d .0))) (λ f. rw f (clean-fault meant z ts (d .1)))
+
+none-blamed : blames none ≡ false
+unfolding blames
+none-blamed = refl
 
 refusal-answer : {A : Type 0} (o : Option ℕ) (a : A) → refusalIn (answer o a) ≡ o
 unfolding refusalIn answer
@@ -80,21 +84,21 @@ module _ (s : GridSearch) (l : Library) where
   refusal-list p f lent = refusal-out (fault (listingTests s l p f (length lent))) (idsOn s l p f) lent ∙ ap fault (append-assoc (libraryTests s l) (placeTests s p f (occupied (table l))) (refuse 14 (ltb (length lent) (length (idsOn s l p f))) ∷ []))
 
 -- a clause for each kind of change
-clean-change : (s : GridSearch) (l : Library) (c : Change) → clean (ownTests s l c) ≡ true
+clean-change : (s : GridSearch) (l : Library) (c : Change) → clean blames (ownTests s l c) ≡ true
 unfolding clean all ownTests positionTests roomTests blames
 clean-change s l (insert i x) = refl
 
-clean-position : (s : GridSearch) (x : List Float) (looked : List (List Float)) → clean (positionTests s x looked) ≡ true
+clean-position : (s : GridSearch) (x : List Float) (looked : List (List Float)) → clean blames (positionTests s x looked) ≡ true
 unfolding clean all positionTests blames
 clean-position s x looked = refl
 
-clean-place : (s : GridSearch) (p : Asked) (f : Filter) (b t : Bool) → clean (placeTests s p f b ++ (refuse 14 t ∷ [])) ≡ true
+clean-place : (s : GridSearch) (p : Asked) (f : Filter) (b t : Bool) → clean blames (placeTests s p f b ++ (refuse 14 t ∷ [])) ≡ true
 unfolding clean all placeTests blames
 clean-place s p f b t = refl
 
 module _ (s : GridSearch) (l : Library) (v : fault (libraryTests s l) ≡ none) where
-  past : (ts : List Test) → clean ts ≡ true → blames (fault (libraryTests s l ++ ts)) ≡ false
-  past ts e = ap blames (fault-right (libraryTests s l) ts v) ∙ clean-fault ts e
+  past : (ts : List Test) → clean blames ts ≡ true → blames (fault (libraryTests s l ++ ts)) ≡ false
+  past ts e = ap blames (fault-right (libraryTests s l) ts v) ∙ clean-fault blames none-blamed ts e
 
   blameless-step : (c : Call) → blames (refusal (step s l c .reply)) ≡ false
   blameless-step (change c) = ap blames (refusal-change s l c (fault (changeTests s l c)) refl) ∙ unfold changeTests in past (ownTests s l c) (clean-change s l c)

@@ -1,14 +1,17 @@
--- Which ids are among those of the rows that count.
-use Prim.Native.Nat.{ℕ}
+-- The ids of the rows that count: which they are, their order and their number.
+use Prim.Native.Nat.{ℕ, _≤_}
+use native.Mathlib.Omega.{arith}
 use mathlib.Core.Path.{_≡_, refl, sym, _∙_, ap}
 use mathlib.Core.Bool.{Bool, true, false, _||_, or-self-left}
 use mathlib.Core.List.{List, [], _∷_}
 use lib.Dec.{ltb, eqb}
+use lib.ListN.{length}
 use borrow.Author.Tests.{eqb-true}
 use Rattle.basics.specs.Bools.{by-test, clash}
 use Rattle.basics.specs.Lists.{any, keep, has, enter}
 use Rattle.table.specs.declared.Row.{Row}
 use Rattle.table.specs.Rows.{idIn, own}
+use Rattle.sorting.specs.Ascent.{ascending, enter-ascending, enter-length}
 use Rattle.listing.specs.Listing.{idsOf, occupied}
 use Rattle.independence.specs.Queries.{holds}
 
@@ -50,3 +53,14 @@ pub occupied-own : (i : ℕ) (rows : List Row) → occupied (own i rows) ≡ tru
 unfolding occupied own keep
 occupied-own i [] e = e
 occupied-own i (r ∷ rows) e = refl
+
+-- they ascend strictly, and are at most as many as the rows
+pub ids-ascend : (p : Row → Bool) (rows : List Row) → ascending (idsOf p rows) ≡ true
+unfolding idsOf ascending
+ids-ascend p [] = refl
+ids-ascend p (r ∷ rows) = by-test (p r) (λ e. rw e (enter-ascending (idIn r) (idsOf p rows) (ids-ascend p rows))) (λ e. rw e (ids-ascend p rows))
+
+pub ids-no-more : (p : Row → Bool) (rows : List Row) → length (idsOf p rows) ≤ length rows
+unfolding idsOf
+ids-no-more p [] = omega arith
+ids-no-more p (r ∷ rows) = by-test (p r) (λ e. rw e (omega (arith, enter-length (idIn r) (idsOf p rows), ids-no-more p rows))) (λ e. rw e (omega (arith, ids-no-more p rows)))

@@ -17,6 +17,7 @@ use Rattle.table.specs.declared.Row.{Row}
 use Rattle.table.specs.Rows.{Slot, slotOf, sorted, rowFor, own}
 use Rattle.rows.specs.Library.{Library, table, space, tooLong, level, libraryTests}
 use Rattle.search.specs.Search.{searchAnswer}
+use Rattle.sorting.specs.Ascent.{ascending}
 use Rattle.listing.specs.declared.Filter.{Filter}
 use Rattle.listing.specs.Place.{Asked}
 use Rattle.listing.specs.Listing.{idsOn, listing}
@@ -129,6 +130,11 @@ pub record Writing (s : GridSearch) (l : Library) (p : Asked) (f : Filter) (lent
   -- a listing writes the ids that are on the place, and counts them
   pub writes : (n : ℕ) → listing s l p f lent .answer ≡ success n
       → (listing s l p f lent .list ≡ over (idsOn s l p f) lent) × (n ≡ length (idsOn s l p f)) × ((i : ℕ) → has i (idsOn s l p f) ≡ on s l p f i)
+  -- these ids ascend strictly, and are at most as many as the rows in use
+  pub ascend : ascending (idsOn s l p f) ≡ true
+  pub no-more : length (idsOn s l p f) ≤ l .used
+  -- so a list as long as the rows in use is never too short: 14
+  pub long-enough : l .used ≤ length lent → listing s l p f lent .answer ≡ refused 14 → ⊥
   -- a refusal that is not about the lent list means that no id is on the place
   pub refused-on : (n : ℕ) → listing s l p f lent .answer ≡ refused n → eqb n 14 ≡ false → (i : ℕ) → on s l p f i ≡ false
 
