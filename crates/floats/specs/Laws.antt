@@ -1,4 +1,4 @@
--- The laws of module 1 at binary64, in one place. `Roots.antt`, `Exact.antt`, `Whole.antt`, `Least.antt`, `Order.antt`, `Choice.antt` and `Unique.antt` have the proofs, and more laws.
+-- The laws of module 1 at binary64, in one place. `Roots.antt`, `Exact.antt`, `Nearer.antt`, `Whole.antt`, `Least.antt`, `Order.antt`, `Choice.antt` and `Unique.antt` have the proofs, and more laws.
 -- Assumes nothing.
 use mathlib.Core.Path.{_≡_}
 use Prim.Native.Nat.{ℕ, zero, suc, _+_, _*_, _/_, _%_, _^_, _<_}
@@ -13,10 +13,11 @@ use Rattle.floats.specs.Rounded.{zeroF, truncate}
 use Rattle.floats.specs.Sqrt.{sqrtOf}
 use Rattle.floats.specs.Exact.{Nearest, sqrt-nearest}
 use Rattle.floats.specs.Roots.{sqrt-fits, sqrt-monotone, sqrt-square, sqrt-sign, sqrt-not-below}
+use Rattle.floats.specs.Nearer.{nearerRoot, none-nearer}
 use Rattle.floats.specs.Whole.{WholePart, truncate-whole}
 use Rattle.floats.specs.Ceil.{ceilOf}
 use Rattle.floats.specs.Least.{Next, ceil-least}
-use Rattle.floats.specs.Tests.{absOf}
+use Rattle.floats.specs.Tests.{absOf, finite}
 
 -- x is a value of binary64: what an `f64` holds
 abbrev pub Binary64 : Float → Type 0
@@ -27,6 +28,10 @@ Binary64 x = T (fits binary64 x)
 pub root-nearest : (x : Float) → Binary64 x → T (positive x) → Nearest 53 1074 x (sqrtOf x)
 unfolding sqrtOf
 root-nearest x h p = sqrt-nearest binary64 x h p
+
+-- Nothing is nearer: of every finite x that is not below zero, no y of binary64 is nearer to the exact root than the one given. `nearerRoot` compares squares of midpoints.
+pub root-none-nearer : (x y : Float) → Binary64 x → Binary64 y → finite x ≡ true → le zeroF x ≡ true → nearerRoot x (sqrtOf x) y ≡ false
+root-none-nearer x y h k f z = none-nearer x y h k f z
 
 pub root-held : (x : Float) → Binary64 x → Binary64 (sqrtOf x)
 unfolding sqrtOf

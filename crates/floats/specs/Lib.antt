@@ -14,6 +14,7 @@ pub mod Limit
 pub mod Posts
 pub mod Exact
 pub mod Roots
+pub mod Nearer
 pub mod Whole
 pub mod Ceil
 pub mod Least
