@@ -13,7 +13,7 @@ use Rattle.floats.specs.Rounded.{zeroF, truncate}
 use Rattle.floats.specs.Sqrt.{sqrtOf}
 use Rattle.floats.specs.Exact.{Nearest, sqrt-nearest}
 use Rattle.floats.specs.Roots.{sqrt-fits, sqrt-monotone, sqrt-square, sqrt-sign, sqrt-not-below}
-use Rattle.floats.specs.Nearer.{nearerRoot, none-nearer}
+use Rattle.floats.specs.Nearer.{nearerRoot, root-is-finite, none-nearer}
 use Rattle.floats.specs.Whole.{WholePart, truncate-whole}
 use Rattle.floats.specs.Ceil.{ceilOf}
 use Rattle.floats.specs.Least.{Next, ceil-least}
@@ -29,7 +29,10 @@ pub root-nearest : (x : Float) → Binary64 x → T (positive x) → Nearest 53 
 unfolding sqrtOf
 root-nearest x h p = sqrt-nearest binary64 x h p
 
--- Nothing is nearer: of every finite x that is not below zero, no y of binary64 is nearer to the exact root than the one given. `nearerRoot` compares squares of midpoints.
+-- Nothing is nearer: of every finite x that is not below zero the root is finite, and no y of binary64 is nearer to the exact root. `nearerRoot` compares squares of midpoints.
+pub root-finite : (x : Float) → Binary64 x → finite x ≡ true → le zeroF x ≡ true → finite (sqrtOf x) ≡ true
+root-finite x h f z = root-is-finite x h f z
+
 pub root-none-nearer : (x y : Float) → Binary64 x → Binary64 y → finite x ≡ true → le zeroF x ≡ true → nearerRoot x (sqrtOf x) y ≡ false
 root-none-nearer x y h k f z = none-nearer x y h k f z
 

@@ -189,7 +189,24 @@ unfolding nearer
 of-zero true b = rw (le-ltb b 0 zero-le)
 of-zero false b = rw (le-ltb ((0 + b) * (0 + b)) 0 zero-le, le-ltb b 0 zero-le, and-false (ltb 0 b))
 
--- Of every finite x that is not below zero, no y of binary64 is nearer to the exact root than `sqrtOf x`.
+has-finite : (y : Float) (s : Bool) (a c : ℕ) → HasValue y s a c → finite y ≡ true
+unfolding finite
+has-finite nan s a c v = absurd v
+has-finite (inf t) s a c v = absurd v
+has-finite (fin t m e) s a c v = refl
+
+-- Of every finite x that is not below zero the root is finite,
+pub root-is-finite : (x : Float) → T (fits binary64 x) → finite x ≡ true → le zeroF x ≡ true → finite (sqrtOf x) ≡ true
+unfolding sqrtOf sqrtIn finite
+root-is-finite nan h f z = f
+root-is-finite (inf s) h f z = clash f refl
+root-is-finite (fin s zero e) h f z = refl
+root-is-finite (fin true (suc m) e) h f z = clash z (below-zero m e)
+root-is-finite (fin false (suc m) e) h f z =
+    let r = sqrt-nearest binary64 (fin false (suc m) e) h (lt→ltb 0 (suc m) (zero-lt-suc m)) in
+    has-finite (sqrtOf (fin false (suc m) e)) false (r .q * 2 ^ r .k) (2 ^ 1074) (r .is)
+
+-- and no y of binary64 is nearer to the exact root.
 pub none-nearer : (x y : Float) → T (fits binary64 x) → T (fits binary64 y) → finite x ≡ true → le zeroF x ≡ true → nearerRoot x (sqrtOf x) y ≡ false
 unfolding nearerRoot sqrtOf sqrtIn finite
 none-nearer x nan h k f z = refl
