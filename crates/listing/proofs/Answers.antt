@@ -145,6 +145,10 @@ module _ (s : GridSearch) (keys ids : List ℕ) (xs ys zs : List Float) (used : 
   abbrev lent : Library
   lent = library keys ids xs ys zs used
 
+  -- the listing of a place that is the one asked for
+  pub as-asked : (q : Asked) → q ≡ p → (r : Listed) (after : List ℕ) → Lists (listing s lent q f list) r after → Lists (listing s lent p f list) r after
+  as-asked q e r after o = subst (λ (x : Asked). Lists (listing s lent x f list) r after) e o
+
   module _ (damage : ℕ) (is-damage : damage ≡ code (fault (libraryTests s lent))) where
     pub turned-away : (damage ≡ 0 → ⊥) → Lists (listing s lent p f list) (Refused damage) list
     turned-away ne = bad-library s lent p f list damage is-damage ne
@@ -176,3 +180,10 @@ module _ (s : GridSearch) (keys ids : List ℕ) (xs ys zs : List Float) (used : 
             gives r after o =
                 listed-out s lent p f list passes-library (ap (λ (b : Bool). fault (placeTests s p f b)) (sym (occupied-used keys ids xs ys zs used)) ∙ passes-place) r after
                 (subst (λ (q : Asked). Out (idsOf (isOn s q f) (rowsOf keys ids xs ys zs used)) list r after) same o)
+
+      -- turned away by 16 or 2, before a place is made
+      pub not-there : (unfit (s .ndim) p || unfitFilter (s .ndim) f) ≡ true → Lists (listing s lent p f list) (Refused 16) list
+      not-there e = misplaced 16 (place-16 s p f (ltb 0 used) e) (λ q. omega arith)
+
+      pub other-length : (dimension (s .ndim) ≡ true → ((unfit (s .ndim) p || unfitFilter (s .ndim) f) ≡ false) × (wrongLength (s .ndim) p ≡ true)) → Lists (listing s lent p f list) (Refused 2) list
+      other-length h = misplaced 2 (place-2 s p f (ltb 0 used) (h axes .0) (h axes .1)) (λ q. omega arith)

@@ -4,13 +4,13 @@ use Prim.Native.Nat.{ℕ, zero, suc, _≤_, _<_}
 use native.Mathlib.Omega.{arith}
 use mathlib.Core.Path.{_≡_, refl, sym, ap, ap₂, _∙_}
 use mathlib.Core.Logic.{_⊎_, inl, inr}
-use mathlib.Core.Bool.{true, false, not, _&&_}
+use mathlib.Core.Bool.{Bool, true, false, not, _&&_, _||_}
 use mathlib.Core.List.{List}
-use lib.Dec.{eqb, leb}
+use lib.Dec.{eqb, leb, ltb}
 use lib.ListN.{length, getD}
 use lib.Ieee.{Float}
-use borrow.Author.Tests.{eqb-true, eqb-false, ne-eqb, not-false, leb-true, leb-false}
-use Rattle.basics.specs.Bools.{by-test, clash, and-left, and-right}
+use borrow.Author.Tests.{eqb-true, ne-eqb, not-true, not-false, leb-true, leb-false, le-leb, ltb-false, le-ltb}
+use Rattle.basics.specs.Bools.{by-test, and-left, and-right, or-left, or-right}
 use Rattle.basics.specs.Lists.{zipWith}
 use Rattle.floats.specs.Rounded.{_⊖_, zeroF}
 use Rattle.floats.specs.Tests.{absOf}
@@ -20,8 +20,11 @@ use Rattle.geometry.specs.Axes.{two-or-three, coords-of}
 use Rattle.grid.specs.Divisions.{counts}
 use Rattle.grid.specs.Containers.{pivots, centre}
 use Rattle.grid_search.specs.declared.GridSearch.{GridSearch}
+use Rattle.listing.specs.declared.Place.{Place}
 use Rattle.listing.specs.declared.Place.the-variants as place
-use Rattle.listing.specs.Place.{Asked, line, circle, cylinder, plane, unknown, askedOf, asked, placeDistance, centreOf, unfit, wrongLength}
+use Rattle.listing.specs.declared.Filter.{Filter}
+use Rattle.listing.specs.Place.{Asked, line, circle, cylinder, plane, unknown, askedOf, asked, placeDistance, centreOf, unfit, unfitFilter, wrongLength}
+use Rattle.listing.specs.Posts.{Stands}
 
 -- ---- a place by its number
 
@@ -93,20 +96,9 @@ axis-entry n k x d h = go k h (two-or-three n d)
     go (suc (suc zero)) h (inr e) = rw e
     go (suc (suc (suc k))) h (inr e) = absurd (omega arith)
 
--- ---- the tests by number
+-- ---- a place made of a number and slices
 
-pub unfit-space : (n p : ℕ) (a b : List Float) (v : Float) → (p ≡ 0 → ⊥) → (p ≡ 1 → ⊥) → p ≤ 5 → unfit n (askedOf p a b v) ≡ not (eqb n 3)
-unfolding unfit
-unfit-space n p a b v f g le =
-    by-test (eqb p 2) (λ e. rw (is-cylinder p a b v (eqb-true p 2 e)))
-    (λ e. of-planes (λ (q : Asked). unfit n q ≡ not (eqb n 3)) p a b v (λ k. refl) f g (eqb-false p 2 e) le)
-
-pub unfit-known : (n p : ℕ) (a b : List Float) (v : Float) → unfit n (askedOf p a b v) ≡ false → p ≤ 5
-unfolding unfit
-unfit-known n p a b v e =
-    by-test (leb p 5) (λ f. leb-true p 5 f) (λ f. clash refl (rw (is-unknown p a b v (leb-false p 5 f)) at e))
-
-pub lengths : (n p : ℕ) (a b : List Float) (v : Float) → (p ≡ 0) ⊎ (p ≡ 2) → wrongLength n (askedOf p a b v) ≡ false → (length a ≡ n) × (length b ≡ n)
+lengths : (n p : ℕ) (a b : List Float) (v : Float) → (p ≡ 0) ⊎ (p ≡ 2) → wrongLength n (askedOf p a b v) ≡ false → (length a ≡ n) × (length b ≡ n)
 unfolding wrongLength
 lengths n p a b v (inl e) f =
     let g : (eqb (length a) n && eqb (length b) n) ≡ true = not-false (eqb (length a) n && eqb (length b) n) (rw (is-line p a b v e) at f) in
@@ -115,34 +107,95 @@ lengths n p a b v (inr e) f =
     let g : (eqb (length a) n && eqb (length b) n) ≡ true = not-false (eqb (length a) n && eqb (length b) n) (rw (is-cylinder p a b v e) at f) in
     (eqb-true (length a) n (and-left (eqb (length a) n) (eqb (length b) n) g), eqb-true (length b) n (and-right (eqb (length a) n) (eqb (length b) n) g))
 
-pub length-centre : (n p : ℕ) (a b : List Float) (v : Float) → p ≡ 1 → wrongLength n (askedOf p a b v) ≡ false → length a ≡ n
+length-centre : (n p : ℕ) (a b : List Float) (v : Float) → p ≡ 1 → wrongLength n (askedOf p a b v) ≡ false → length a ≡ n
 unfolding wrongLength
 length-centre n p a b v e f = eqb-true (length a) n (not-false (eqb (length a) n) (rw (is-circle p a b v e) at f))
 
--- ---- a place made of slices
+module _ (p : ℕ) (a b : List Float) (v : Float) where
+  pub made-line : p ≡ 0 → (x y : Position) → x ≡ positionOf a → y ≡ positionOf b → Stands p a b v (place.Line x y)
+  unfolding asked unfit
+  made-line e x y s t = record {
+    same = λ n d h right. let l = lengths n p a b v (inl e) right in ap₂ line (coords-of n a x d (l .0) s) (coords-of n b y d (l .1) t) ∙ sym (is-line p a b v e);
+    alike = λ n h. ap (unfit n) (sym (is-line p a b v e));
+  }
 
-module _ (n p : ℕ) (a b : List Float) (v : Float) (d : dimension n ≡ true) (right : wrongLength n (askedOf p a b v) ≡ false) where
-  pub made-line : p ≡ 0 → (x y : Position) → x ≡ positionOf a → y ≡ positionOf b → asked n (place.Line x y) ≡ askedOf p a b v
+  pub made-circle : p ≡ 1 → (x : Position) → x ≡ positionOf a → Stands p a b v (place.Circle x v)
+  unfolding asked unfit
+  made-circle e x s = record {
+    same = λ n d h right. ap (λ (l : List Float). circle l v) (coords-of n a x d (length-centre n p a b v e right) s) ∙ sym (is-circle p a b v e);
+    alike = λ n h. ap (unfit n) (sym (is-circle p a b v e));
+  }
+
+  pub made-cylinder : p ≡ 2 → (x y : Position) → x ≡ positionOf a → y ≡ positionOf b → Stands p a b v (place.Cylinder x y v)
+  unfolding asked unfit
+  made-cylinder e x y s t = record {
+    same = λ n d h right. let l = lengths n p a b v (inr e) right in ap₂ (λ (l m : List Float). cylinder l m v) (coords-of n a x d (l .0) s) (coords-of n b y d (l .1) t) ∙ sym (is-cylinder p a b v e);
+    alike = λ n h. ap (unfit n) (sym (is-cylinder p a b v e));
+  }
+
+  -- a plane has no positions, so that it is the one named whatever the slices
+  plane-made : (on : Place) → ((n : ℕ) → p ≤ 5 → asked n on ≡ askedOf p a b v) → Stands p a b v on
+  plane-made on e = record { same = λ n d h right. e n h; alike = λ n h. ap (unfit n) (e n h) }
+
+  pub made-xy : p ≡ 3 → Stands p a b v (place.PlaneXY v)
   unfolding asked
-  made-line e x y s t = let l = lengths n p a b v (inl e) right in ap₂ line (coords-of n a x d (l .0) s) (coords-of n b y d (l .1) t) ∙ sym (is-line p a b v e)
+  made-xy e = plane-made (place.PlaneXY v) (λ n h. sym (is-xy p a b v e))
 
-  pub made-circle : p ≡ 1 → (x : Position) → x ≡ positionOf a → asked n (place.Circle x v) ≡ askedOf p a b v
+  pub made-yz : p ≡ 4 → Stands p a b v (place.PlaneYZ v)
   unfolding asked
-  made-circle e x s = ap (λ (l : List Float). circle l v) (coords-of n a x d (length-centre n p a b v e right) s) ∙ sym (is-circle p a b v e)
+  made-yz e = plane-made (place.PlaneYZ v) (λ n h. sym (is-yz p a b v e))
 
-  pub made-cylinder : p ≡ 2 → (x y : Position) → x ≡ positionOf a → y ≡ positionOf b → asked n (place.Cylinder x y v) ≡ askedOf p a b v
+  pub made-xz : (p ≡ 0 → ⊥) → (p ≡ 1 → ⊥) → (p ≡ 2 → ⊥) → (p ≡ 3 → ⊥) → (p ≡ 4 → ⊥) → Stands p a b v (place.PlaneXZ v)
   unfolding asked
-  made-cylinder e x y s t = let l = lengths n p a b v (inr e) right in ap₂ (λ (l m : List Float). cylinder l m v) (coords-of n a x d (l .0) s) (coords-of n b y d (l .1) t) ∙ sym (is-cylinder p a b v e)
+  made-xz e₀ e₁ e₂ e₃ e₄ = plane-made (place.PlaneXZ v) (λ n h. go n (plane-number p e₀ e₁ e₂ h))
+    where
+      go : (n : ℕ) → (p ≡ 3) ⊎ ((p ≡ 4) ⊎ (p ≡ 5)) → asked n (place.PlaneXZ v) ≡ askedOf p a b v
+      go n (inl e) = absurd (e₃ e)
+      go n (inr (inl e)) = absurd (e₄ e)
+      go n (inr (inr e)) = sym (is-xz p a b v e)
 
-pub made-xz : (n p : ℕ) (a b : List Float) (v : Float) → unfit n (askedOf p a b v) ≡ false
-    → (p ≡ 0 → ⊥) → (p ≡ 1 → ⊥) → (p ≡ 2 → ⊥) → (p ≡ 3 → ⊥) → (p ≡ 4 → ⊥) → asked n (place.PlaneXZ v) ≡ askedOf p a b v
-unfolding asked
-made-xz n p a b v fit e₀ e₁ e₂ e₃ e₄ = go (plane-number p e₀ e₁ e₂ (unfit-known n p a b v fit))
+-- a place that holds positions has their right length in every dimension
+pub right-lengths : (n : ℕ) (on : Place) → dimension n ≡ true → wrongLength n (asked n on) ≡ false
+unfolding asked wrongLength
+right-lengths n on d = go on (two-or-three n d)
   where
-    go : (p ≡ 3) ⊎ ((p ≡ 4) ⊎ (p ≡ 5)) → asked n (place.PlaneXZ v) ≡ askedOf p a b v
-    go (inl e) = absurd (e₃ e)
-    go (inr (inl e)) = absurd (e₄ e)
-    go (inr (inr e)) = sym (is-xz p a b v e)
+    go : (on : Place) → (n ≡ 2) ⊎ (n ≡ 3) → wrongLength n (asked n on) ≡ false
+    go (place.Line a b) (inl e) = rw e
+    go (place.Line a b) (inr e) = rw e
+    go (place.Circle a r) (inl e) = rw e
+    go (place.Circle a r) (inr e) = rw e
+    go (place.Cylinder a b r) (inl e) = rw e
+    go (place.Cylinder a b r) (inr e) = rw e
+    go (place.PlaneXY z) h = refl
+    go (place.PlaneYZ x) h = refl
+    go (place.PlaneXZ y) h = refl
+
+-- ---- the tests of the call by number, as the code joins them
+
+module _ {p : ℕ} {a b : List Float} {v : Float} {on : Place} (s : Stands p a b v on) (n : ℕ) where
+  -- the place is the one that was asked for
+  pub one-place : {d w : Bool} → d ≡ dimension n → w ≡ wrongLength n (askedOf p a b v) → (d && (leb p 5 && not w)) ≡ true → asked n on ≡ askedOf p a b v
+  one-place {d} {w} e g t =
+      let r : (leb p 5 && not w) ≡ true = and-right d (leb p 5 && not w) t in
+      s .same n (sym e ∙ and-left d (leb p 5 && not w) t) (leb-true p 5 (and-left (leb p 5) (not w) r)) (sym g ∙ not-true w (and-right (leb p 5) (not w) r))
+
+  module _ (f : Filter) {u g : Bool} (e : u ≡ unfit n (asked n on)) (k : g ≡ unfitFilter n f) where
+    -- 16
+    pub no-place : (ltb 5 p || (u || g)) ≡ true → (unfit n (askedOf p a b v) || unfitFilter n f) ≡ true
+    unfolding unfit
+    no-place t =
+        by-test (leb p 5)
+        (λ h. ap₂ (λ (x y : Bool). x || y) (sym (e ∙ s .alike n (leb-true p 5 h))) (sym k) ∙ rw (le-ltb 5 p (leb-true p 5 h)) at t)
+        (λ h. rw (is-unknown p a b v (leb-false p 5 h)))
+
+    -- 2, where no place was made and 16 does not apply
+    pub wrong-length : {d w : Bool} → w ≡ wrongLength n (askedOf p a b v) → d ≡ true → (ltb 5 p || (u || g)) ≡ false → (d && (leb p 5 && not w)) ≡ false
+        → ((unfit n (askedOf p a b v) || unfitFilter n f) ≡ false) × (wrongLength n (askedOf p a b v) ≡ true)
+    wrong-length {d} {w} i j t m =
+        let h : p ≤ 5 = ltb-false 5 p (or-left (ltb 5 p) (u || g) t) in (
+          ap₂ (λ (x y : Bool). x || y) (sym (e ∙ s .alike n h)) (sym k) ∙ or-right (ltb 5 p) (u || g) t,
+          sym i ∙ not-false w (rw (j, le-leb p 5 h) at m),
+        )
 
 -- ---- distances
 

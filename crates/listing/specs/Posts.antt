@@ -2,13 +2,14 @@
 -- Assumes nothing.
 use Prim.Native.Nat.{ℕ, _-_, _≤_, _<_}
 use mathlib.Core.Path.{_≡_}
-use mathlib.Core.Bool.{Bool, false}
+use mathlib.Core.Bool.{Bool, true, false}
 use mathlib.Core.List.{List, [], _∷_, map}
 use lib.Dec.{ltb}
 use lib.ListN.{length, getD, take}
 use lib.Ieee.{Float}
 use Rattle.basics.specs.Lists.{keep}
 use Rattle.basics.specs.Refusals.{refuse, fault}
+use Rattle.geometry.specs.Position.{dimension}
 use Rattle.grid.specs.Divisions.{counts}
 use Rattle.grid.specs.Containers.{containers}
 use Rattle.grid_search.specs.declared.GridSearch.{GridSearch}
@@ -18,8 +19,14 @@ use Rattle.sorting.specs.Posts.{within, Below}
 use Rattle.listing.specs.declared.Place.{Place}
 use Rattle.listing.specs.declared.Filter.{Filter}
 use Rattle.listing.specs.declared.Listed.{Listed}
-use Rattle.listing.specs.Place.{asked, unfit, unfitFilter, containerNear, isOn}
+use Rattle.listing.specs.Place.{askedOf, asked, wrongLength, unfit, unfitFilter, containerNear, isOn}
 use Rattle.listing.specs.Listing.{idsOf, listOut, listed}
+
+-- A place that the code makes of a number and slices: the one that they name, where it is one and the slices have the right
+-- length, and else of the same kind, so that 16 says the same of both.
+pub record Stands (p : ℕ) (a b : List Float) (v : Float) (on : Place) : Type 0 where
+  pub same : (n : ℕ) → dimension n ≡ true → p ≤ 5 → wrongLength n (askedOf p a b v) ≡ false → asked n on ≡ askedOf p a b v
+  pub alike : (n : ℕ) → p ≤ 5 → unfit n (asked n on) ≡ unfit n (askedOf p a b v)
 
 -- what is known of the sheet, the rows, the place and the filter when the rows are walked
 pub record Known (s : GridSearch) (keys ids : List ℕ) (xs ys zs : List Float) (used : ℕ) (p : Place) (f : Filter) : Type 0 where

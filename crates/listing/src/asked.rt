@@ -1,28 +1,26 @@
-// A place as a caller gives it, by a number and slices: what turns it away, and the place made of it.
+// What turns a place and a filter away, and the place that a number and slices name.
 ghost use mathlib.Core.Path.{_≡_};
-ghost use mathlib.Core.Bool.{true, false};
-ghost use mathlib.Core.List.{List};
+ghost use mathlib.Core.Bool.{true};
 ghost use lib.Ieee.{Float};
 ghost use Rattle.geometry.specs.Position.{dimension};
 ghost use Rattle.listing.specs.Place.{askedOf, asked as askedIn, unfit, unfitFilter, wrongLength, placeLimits, filterLimits, pinched};
+ghost use Rattle.listing.specs.Posts.{Stands};
 use crate::Filter;
 use crate::Place;
 use geometry::Position;
 
 // Whether there is no such place in so many dimensions: 16.
-pub(crate) fn is_unfit(ndim: usize, place: u64) -> bool
-    ensures { λ r. ⌜ ((a b : List Float) (v : Float) → r ≡ unfit ndim (askedOf place a b v)) ⌝ }
+pub(crate) fn is_unfit(ndim: usize, place: Place) -> bool
+    ensures { λ r. ⌜ r ≡ unfit ndim (askedIn ndim place) ⌝ }
 {
-    if place == 0 {
-        return false;
+    match place {
+        Place::Line(_, _) => false,
+        Place::Circle(_, _) => ndim != 2,
+        Place::Cylinder(_, _, _) => ndim != 3,
+        Place::PlaneXY(_) => ndim != 3,
+        Place::PlaneYZ(_) => ndim != 3,
+        Place::PlaneXZ(_) => ndim != 3,
     }
-    if place == 1 {
-        return ndim != 2;
-    }
-    if place <= 5 {
-        return ndim != 3;
-    }
-    true
 }
 
 // Whether the filter is on an axis that is not there: 16.
@@ -56,23 +54,23 @@ pub(crate) fn has_wrong_length(ndim: usize, place: u64, a: &[f64], b: &[f64]) ->
 }
 
 // Whether every coordinate of the place, its radius included, is one: else 3.
-pub(crate) fn place_ok(place: u64, a: &[f64], b: &[f64], number: f64) -> bool
-    ensures { λ r. ⌜ r ≡ placeLimits (askedOf place (now (a .entry)) (now (b .entry)) number) ⌝ }
+pub(crate) fn place_ok(ndim: usize, place: Place) -> bool
+    requires { ⌜ dimension ndim ≡ true ⌝ }
+    ensures { λ r. ⌜ r ≡ placeLimits (askedIn ndim place) ⌝ }
 {
-    if place == 0 {
-        return geometry::all_coordinates(a) & geometry::all_coordinates(b);
+    match place {
+        Place::Line(a, b) => geometry::position_ok(ndim, a) & geometry::position_ok(ndim, b),
+        Place::Circle(center, radius) => {
+            geometry::position_ok(ndim, center) & geometry::is_coordinate(radius)
+        }
+        Place::Cylinder(a, b, radius) => {
+            geometry::position_ok(ndim, a)
+                & (geometry::position_ok(ndim, b) & geometry::is_coordinate(radius))
+        }
+        Place::PlaneXY(z) => geometry::is_coordinate(z),
+        Place::PlaneYZ(x) => geometry::is_coordinate(x),
+        Place::PlaneXZ(y) => geometry::is_coordinate(y),
     }
-    if place == 1 {
-        return geometry::all_coordinates(a) & geometry::is_coordinate(number);
-    }
-    if place == 2 {
-        return geometry::all_coordinates(a)
-            & (geometry::all_coordinates(b) & geometry::is_coordinate(number));
-    }
-    if place <= 5 {
-        return geometry::is_coordinate(number);
-    }
-    true
 }
 
 // Whether the ends of a range are coordinates: else 3.
@@ -87,10 +85,10 @@ pub(crate) fn filter_ok(filter: Filter) -> bool
     }
 }
 
-// The place, once its positions have the right length.
-pub(crate) fn made(ndim: usize, place: u64, a: &[f64], b: &[f64], number: f64) -> Place
-    requires { ⌜ dimension ndim ≡ true ⌝ ∗ ⌜ unfit ndim (askedOf place (now a) (now b) number) ≡ false ⌝ ∗ ⌜ wrongLength ndim (askedOf place (now a) (now b) number) ≡ false ⌝ }
-    ensures { λ r. ⌜ askedIn ndim r ≡ askedOf place (now (a .entry)) (now (b .entry)) number ⌝ }
+// The place of a number and slices. Where the number names none, or a slice has another length than the dimension, it is
+// some place, which no caller lists.
+pub(crate) fn made(place: u64, a: &[f64], b: &[f64], number: f64) -> Place
+    ensures { λ r. ⌜ Stands place (now (a .entry)) (now (b .entry)) number r ⌝ }
 {
     if place == 0 {
         return Place::Line(Position::new(a), Position::new(b));

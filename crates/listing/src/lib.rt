@@ -6,9 +6,8 @@ mod walk;
 ghost use Rattle.basics.specs.Refusals.{fault, code};
 ghost use Rattle.geometry.specs.Position.{dimension};
 ghost use Rattle.rows.specs.Library.{library};
-ghost use Rattle.listing.specs.Place.{line, circle, cylinder, plane, askedOf, placeTests};
+ghost use Rattle.listing.specs.Place.{line, circle, cylinder, plane, askedOf, asked, placeTests};
 ghost use Rattle.listing.specs.Listing.{listing, Lists};
-ghost use Prim.Native.Nat.{ℕ};
 ghost use mathlib.Core.Path.{_≡_};
 ghost use mathlib.Core.Bool.{true};
 ghost use lib.Dec.{ltb};
@@ -41,39 +40,63 @@ pub enum Listed {
     Refused(u64),
 }
 
-// What turns a place and a filter away: 16, 2, 3, 15 where a row is in use, or 0.
-fn place_fault(
-    sheet: GridSearch,
-    used: usize,
-    place: u64,
-    a: &[f64],
-    b: &[f64],
-    number: f64,
-    filter: Filter,
-) -> u64
+// What turns a place and a filter away: 16, 3, 15 where a row is in use, or 0.
+fn place_fault(sheet: GridSearch, used: usize, place: Place, filter: Filter) -> u64
     requires { ⌜ dimension (sheet .ndim) ≡ true ⌝ }
-    ensures { λ r. ⌜ r ≡ code (fault (placeTests sheet (askedOf place (now (a .entry)) (now (b .entry)) number) filter (ltb 0 used))) ⌝ }
+    ensures { λ r. ⌜ r ≡ code (fault (placeTests sheet (asked (sheet .ndim) place) filter (ltb 0 used))) ⌝ }
 {
     let ndim = sheet.ndim;
-    if asked::is_unfit(ndim, place) | asked::is_unfit_filter(ndim, filter) {
+    let unfit = asked::is_unfit(ndim, place) | asked::is_unfit_filter(ndim, filter);
+    let within = asked::place_ok(ndim, place) & asked::filter_ok(filter);
+    if unfit {
         return 16;
     }
-    if asked::has_wrong_length(ndim, place, a, b) {
-        return 2;
-    }
-    if !(asked::place_ok(place, a, b, number) & asked::filter_ok(filter)) {
+    if !within {
         return 3;
     }
-    let on = asked::made(ndim, place, a, b, number);
-    if (0 < used) & asked::is_pinched(ndim, on) {
+    if (0 < used) & asked::is_pinched(ndim, place) {
         return 15;
     }
     0
 }
 
-// The ids of the marks on a place, ascending, once each, at the front of the list: how many they are, or a refusal.
-// The place is 0 for the line through a and b, 1 for the circle of centre a and radius `number`, 2 for the cylinder of
-// axis a, b and radius `number`, and 3, 4 and 5 for the planes xy, yz and xz at the coordinate `number`.
+// Lists the marks on a place that the filter keeps: their ids, ascending and once each, stand at the front of the list, and
+// the answer is how many they are. The list beyond them stays. A mark is on the place where one of its rows counts: the
+// centre of the row's container is within container radius + `tol_dist` of the place, and the row's point within `tol_dist`.
+// Refused with the first that applies, the list as it was: 24 (row slices too long), 13 (the sheet or the rows are damaged),
+// 16 (a circle in 3D, a cylinder or a plane in 2D, a filter on an axis that is not there), 3 (a coordinate, a radius or an end
+// of the range is none), 15 (the ends of a line or a cylinder are too close, while a row is in use), 14 (the list is shorter
+// than the listing). 2 cannot come up: the place holds positions, of whatever dimension.
+pub fn search_on(
+    sheet: GridSearch,
+    keys: &[u64],
+    ids: &[u64],
+    xs: &[f64],
+    ys: &[f64],
+    zs: &[f64],
+    used: usize,
+    place: Place,
+    filter: Filter,
+    list: &mut [u64],
+) -> Listed
+    ensures { λ r. ⌜ Lists (listing sheet (library (now (keys .entry)) (now (ids .entry)) (now (xs .entry)) (now (ys .entry)) (now (zs .entry)) used)
+        (asked (sheet .ndim) place) filter (now (list .entry))) r (now (list .exit)) ⌝ }
+{
+    let damage = rows::library_fault(sheet, keys, ids, xs, ys, zs, used);
+    if damage != 0 {
+        return Listed::Refused(damage);
+    }
+    let fault = place_fault(sheet, used, place, filter);
+    if fault != 0 {
+        return Listed::Refused(fault);
+    }
+    walk::list_on(sheet, keys, ids, xs, ys, zs, used, place, filter, list)
+}
+
+// The listing of a place that is given by a number and slices, as `search_on` gives it, with 2 (a position's length is not
+// the dimension) between 16 and 3. The place is 0 for the line through a and b, 1 for the circle of centre a and radius
+// `number`, 2 for the cylinder of axis a, b and radius `number`, and 3, 4 and 5 for the planes xy, yz and xz at the coordinate
+// `number`; any other is 16. A slice that the place has no use for is not read.
 pub fn search_on_place(
     sheet: GridSearch,
     keys: &[u64],
@@ -92,19 +115,25 @@ pub fn search_on_place(
     ensures { λ r. ⌜ Lists (listing sheet (library (now (keys .entry)) (now (ids .entry)) (now (xs .entry)) (now (ys .entry)) (now (zs .entry)) used)
         (askedOf place (now (a .entry)) (now (b .entry)) number) filter (now (list .entry))) r (now (list .exit)) ⌝ }
 {
+    let ndim = sheet.ndim;
+    let on = asked::made(place, a, b, number);
+    let right = !asked::has_wrong_length(ndim, place, a, b);
+    if geometry::is_dimension(ndim) & ((place <= 5) & right) {
+        return search_on(sheet, keys, ids, xs, ys, zs, used, on, filter, list);
+    }
     let damage = rows::library_fault(sheet, keys, ids, xs, ys, zs, used);
     if damage != 0 {
         return Listed::Refused(damage);
     }
-    let fault = place_fault(sheet, used, place, a, b, number, filter);
-    if fault != 0 {
-        return Listed::Refused(fault);
+    let unfit = asked::is_unfit(ndim, on) | asked::is_unfit_filter(ndim, filter);
+    if (5 < place) | unfit {
+        return Listed::Refused(16);
     }
-    let on = asked::made(sheet.ndim, place, a, b, number);
-    walk::list_on(sheet, keys, ids, xs, ys, zs, used, on, filter, list)
+    Listed::Refused(2)
 }
 
-// The marks on the line through a and b.
+// Lists the marks on the line through a and b, as `search_on` lists those on a place. Refused with the first of 24, 13, 16
+// (the filter), 2, 3, 15 and 14 that applies, the list as it was; so is each of the calls below.
 pub fn search_on_line(
     sheet: GridSearch,
     keys: &[u64],
@@ -138,7 +167,7 @@ pub fn search_on_line(
     )
 }
 
-// The marks on a circle in the plane.
+// Lists the marks on the circle of a centre and a radius, in the plane: 24, 13, 16, 2, 3, 14.
 pub fn search_on_circle(
     sheet: GridSearch,
     keys: &[u64],
@@ -172,7 +201,7 @@ pub fn search_on_circle(
     )
 }
 
-// The marks on the cylinder in space whose axis goes through a and b.
+// Lists the marks on the cylinder in space whose axis goes through a and b: 24, 13, 16, 2, 3, 15, 14.
 pub fn search_on_cylinder(
     sheet: GridSearch,
     keys: &[u64],
@@ -207,7 +236,7 @@ pub fn search_on_cylinder(
     )
 }
 
-// The marks on a plane. It has no positions, and whichever are passed on are not read.
+// Lists the marks on the plane parallel to x and y at a z, in space: 24, 13, 16, 3, 14.
 pub fn search_on_plane_xy(
     sheet: GridSearch,
     keys: &[u64],
@@ -223,7 +252,7 @@ pub fn search_on_plane_xy(
     ensures { λ r. ⌜ Lists (listing sheet (library (now (keys .entry)) (now (ids .entry)) (now (xs .entry)) (now (ys .entry)) (now (zs .entry)) used)
         (plane 2 z) filter (now (list .entry))) r (now (list .exit)) ⌝ }
 {
-    search_on_place(
+    search_on(
         sheet,
         keys,
         ids,
@@ -231,15 +260,13 @@ pub fn search_on_plane_xy(
         ys,
         zs,
         used,
-        3,
-        xs,
-        xs,
-        z,
+        Place::PlaneXY(z),
         filter,
         list,
     )
 }
 
+// Lists the marks on the plane parallel to y and z at an x, in space: 24, 13, 16, 3, 14.
 pub fn search_on_plane_yz(
     sheet: GridSearch,
     keys: &[u64],
@@ -255,7 +282,7 @@ pub fn search_on_plane_yz(
     ensures { λ r. ⌜ Lists (listing sheet (library (now (keys .entry)) (now (ids .entry)) (now (xs .entry)) (now (ys .entry)) (now (zs .entry)) used)
         (plane 0 x) filter (now (list .entry))) r (now (list .exit)) ⌝ }
 {
-    search_on_place(
+    search_on(
         sheet,
         keys,
         ids,
@@ -263,15 +290,13 @@ pub fn search_on_plane_yz(
         ys,
         zs,
         used,
-        4,
-        xs,
-        xs,
-        x,
+        Place::PlaneYZ(x),
         filter,
         list,
     )
 }
 
+// Lists the marks on the plane parallel to x and z at a y, in space: 24, 13, 16, 3, 14.
 pub fn search_on_plane_xz(
     sheet: GridSearch,
     keys: &[u64],
@@ -287,7 +312,7 @@ pub fn search_on_plane_xz(
     ensures { λ r. ⌜ Lists (listing sheet (library (now (keys .entry)) (now (ids .entry)) (now (xs .entry)) (now (ys .entry)) (now (zs .entry)) used)
         (plane 1 y) filter (now (list .entry))) r (now (list .exit)) ⌝ }
 {
-    search_on_place(
+    search_on(
         sheet,
         keys,
         ids,
@@ -295,10 +320,7 @@ pub fn search_on_plane_xz(
         ys,
         zs,
         used,
-        5,
-        xs,
-        xs,
-        y,
+        Place::PlaneXZ(y),
         filter,
         list,
     )

@@ -1,18 +1,23 @@
 -- `listing::search_on_plane_xy` meets its contract. Assumes nothing.
 use borrow.Author.Needs.{needs}
-use Rattle.listing.specs.Place.{askedOf}
+use Rattle.listing.specs.Place.{asked}
 use Rattle.listing.proofs.search_on_plane_xy.Statement.{statement}
 use Rattle.listing.proofs.search_on_plane_xy.Tie as tie
 
-search-on-place-requires : tie.Need-search-on-place-requires
-search-on-place-requires c κs = search needs
+search-on-requires : tie.Need-search-on-requires
+search-on-requires c κs = search needs
 
 same-length : tie.Need-same-length
 same-length c = search needs
 
 returns : tie.Need-returns
-unfolding askedOf
-returns c = c .before .before .search-on-place .ensures
+unfolding asked
+returns c = c .before .before .search-on .ensures
 
 pub search-on-plane-xy-spec : {M : Type 1} → statement M
-search-on-plane-xy-spec = tie.close (tie.spec search-on-place-requires same-length returns)
+search-on-plane-xy-spec =
+    tie.close
+    (tie.spec
+    search-on-requires
+    same-length
+    returns)

@@ -1,18 +1,23 @@
 -- `listing::search_on_plane_xz` meets its contract. Assumes nothing.
 use borrow.Author.Needs.{needs}
-use Rattle.listing.specs.Place.{askedOf}
+use Rattle.listing.specs.Place.{asked}
 use Rattle.listing.proofs.search_on_plane_xz.Statement.{statement}
 use Rattle.listing.proofs.search_on_plane_xz.Tie as tie
 
-search-on-place-requires : tie.Need-search-on-place-requires
-search-on-place-requires c κs = search needs
+search-on-requires : tie.Need-search-on-requires
+search-on-requires c κs = search needs
 
 same-length : tie.Need-same-length
 same-length c = search needs
 
 returns : tie.Need-returns
-unfolding askedOf
-returns c = c .before .before .search-on-place .ensures
+unfolding asked
+returns c = c .before .before .search-on .ensures
 
 pub search-on-plane-xz-spec : {M : Type 1} → statement M
-search-on-plane-xz-spec = tie.close (tie.spec search-on-place-requires same-length returns)
+search-on-plane-xz-spec =
+    tie.close
+    (tie.spec
+    search-on-requires
+    same-length
+    returns)

@@ -1,24 +1,64 @@
 -- `listing::asked::is_unfit` meets its contract. Assumes nothing.
-use mathlib.Core.Path.{sym}
-use Rattle.listing.proofs.Places.{is-line, is-circle, is-unknown, unfit-space}
-use Rattle.listing.specs.Place.{unfit}
+use borrow.Author.Needs.{needs}
+use Rattle.listing.specs.Place.{asked, unfit}
 use Rattle.listing.proofs.asked.is_unfit.Statement.{statement}
 use Rattle.listing.proofs.asked.is_unfit.Tie as tie
 
+enum-told : tie.Need-enum-told
+enum-told c = search needs
+
+enum-told-2 : tie.Need-enum-told-2
+enum-told-2 c = search needs
+
+enum-told-3 : tie.Need-enum-told-3
+enum-told-3 c = search needs
+
+enum-told-4 : tie.Need-enum-told-4
+enum-told-4 c = search needs
+
+enum-told-5 : tie.Need-enum-told-5
+enum-told-5 c = search needs
+
+enum-told-6 : tie.Need-enum-told-6
+enum-told-6 c = search needs
+
 returns : tie.Need-returns
-unfolding unfit
-returns c = λ a b v. rw (is-line _ a b v (c .if1 .taken))
+unfolding asked unfit
+returns c = rw (c .enum-told .given .1)
 
 returns-2 : tie.Need-returns-2
-unfolding unfit
-returns-2 c = λ a b v. rw (is-circle _ a b v (c .if2 .taken))
+unfolding asked unfit
+returns-2 c = rw (c .enum-told2 .given .1)
 
 returns-3 : tie.Need-returns-3
-returns-3 c = λ a b v. sym (unfit-space _ _ a b v (c .before .before .if1 .left) (c .before .if2 .left) (c .if3 .taken))
+unfolding asked unfit
+returns-3 c = rw (c .enum-told3 .given .1)
 
 returns-4 : tie.Need-returns-4
-unfolding unfit
-returns-4 c = λ a b v. rw (is-unknown _ a b v (c .if3 .left))
+unfolding asked unfit
+returns-4 c = rw (c .enum-told4 .given .1)
+
+returns-5 : tie.Need-returns-5
+unfolding asked unfit
+returns-5 c = rw (c .enum-told5 .given .1)
+
+returns-6 : tie.Need-returns-6
+unfolding asked unfit
+returns-6 c = rw (c .enum-told6 .given .1)
 
 pub is-unfit-spec : {M : Type 1} → statement M
-is-unfit-spec = tie.close (tie.spec returns returns-2 returns-3 returns-4)
+is-unfit-spec =
+    tie.close
+    (tie.spec
+    enum-told
+    enum-told-2
+    enum-told-3
+    enum-told-4
+    enum-told-5
+    enum-told-6
+    returns
+    returns-2
+    returns-3
+    returns-4
+    returns-5
+    returns-6)

@@ -1,69 +1,104 @@
 -- `listing::asked::place_ok` meets its contract. Assumes nothing.
-use mathlib.Core.Path.{_≡_}
 use borrow.Author.Needs.{needs}
-use Rattle.listing.proofs.Places.{is-line, is-circle, is-cylinder, is-unknown, of-planes}
-use Rattle.listing.specs.Place.{Asked, placeLimits}
+use Rattle.listing.specs.Place.{asked, placeLimits}
 use Rattle.listing.proofs.asked.place_ok.Statement.{statement}
 use Rattle.listing.proofs.asked.place_ok.Tie as tie
 
-all-coordinates-requires : tie.Need-all-coordinates-requires
-all-coordinates-requires c κs = search needs
+enum-known-place : tie.Need-enum-known-place
+enum-known-place c = search needs
 
-all-coordinates-requires-2 : tie.Need-all-coordinates-requires-2
-all-coordinates-requires-2 c κs = search needs
+position-ok-requires : tie.Need-position-ok-requires
+position-ok-requires c κs = search needs
 
-returns : tie.Need-returns
-unfolding placeLimits
-returns c = rw (is-line _ _ _ (c .before .before .before .before .before .args .number) (c .before .before .if1 .taken), c .before .all-coordinates .ensures, c .all-coordinates2 .ensures)
+position-ok-requires-2 : tie.Need-position-ok-requires-2
+position-ok-requires-2 c κs = search needs
 
-all-coordinates-requires-3 : tie.Need-all-coordinates-requires-3
-all-coordinates-requires-3 c κs = search needs
+enum-known-place-2 : tie.Need-enum-known-place-2
+enum-known-place-2 c = search needs
+
+position-ok-requires-3 : tie.Need-position-ok-requires-3
+position-ok-requires-3 c κs = search needs
 
 is-coordinate-requires : tie.Need-is-coordinate-requires
 is-coordinate-requires c κs = search needs
 
-returns-2 : tie.Need-returns-2
-unfolding placeLimits
-returns-2 c = rw (is-circle _ _ (c .before .before .before .before .before .before .args .b .now) _ (c .before .before .if2 .taken), c .before .all-coordinates3 .ensures, c .is-coordinate .ensures)
+enum-known-place-3 : tie.Need-enum-known-place-3
+enum-known-place-3 c = search needs
 
-all-coordinates-requires-4 : tie.Need-all-coordinates-requires-4
-all-coordinates-requires-4 c κs = search needs
+position-ok-requires-4 : tie.Need-position-ok-requires-4
+position-ok-requires-4 c κs = search needs
 
-all-coordinates-requires-5 : tie.Need-all-coordinates-requires-5
-all-coordinates-requires-5 c κs = search needs
+position-ok-requires-5 : tie.Need-position-ok-requires-5
+position-ok-requires-5 c κs = search needs
 
 is-coordinate-requires-2 : tie.Need-is-coordinate-requires-2
 is-coordinate-requires-2 c κs = search needs
 
-returns-3 : tie.Need-returns-3
-unfolding placeLimits
-returns-3 c = rw (is-cylinder _ _ _ _ (c .before .before .before .if3 .taken), c .before .before .all-coordinates4 .ensures, c .before .all-coordinates5 .ensures, c .is-coordinate2 .ensures)
+enum-known-place-4 : tie.Need-enum-known-place-4
+enum-known-place-4 c = search needs
 
 is-coordinate-requires-3 : tie.Need-is-coordinate-requires-3
 is-coordinate-requires-3 c κs = search needs
 
+enum-known-place-5 : tie.Need-enum-known-place-5
+enum-known-place-5 c = search needs
+
+is-coordinate-requires-4 : tie.Need-is-coordinate-requires-4
+is-coordinate-requires-4 c κs = search needs
+
+enum-known-place-6 : tie.Need-enum-known-place-6
+enum-known-place-6 c = search needs
+
+is-coordinate-requires-5 : tie.Need-is-coordinate-requires-5
+is-coordinate-requires-5 c κs = search needs
+
+returns : tie.Need-returns
+unfolding asked placeLimits
+returns c = rw (c .before .before .before .place .given .1, c .before .position-ok .ensures, c .position-ok2 .ensures)
+
+returns-2 : tie.Need-returns-2
+unfolding asked placeLimits
+returns-2 c = rw (c .before .before .before .place2 .given .1, c .before .position-ok3 .ensures, c .is-coordinate .ensures)
+
+returns-3 : tie.Need-returns-3
+unfolding asked placeLimits
+returns-3 c = rw (c .before .before .before .before .place3 .given .1, c .before .before .position-ok4 .ensures, c .before .position-ok5 .ensures, c .is-coordinate2 .ensures)
+
 returns-4 : tie.Need-returns-4
-unfolding placeLimits
-returns-4 c = of-planes (λ (q : Asked). c .is-coordinate3 .result ≡ placeLimits q) _ _ _ _ (λ k. c .is-coordinate3 .ensures) (c .before .before .before .before .if1 .left) (c .before .before .before .if2 .left) (c .before .before .if3 .left) (c .before .if4 .taken)
+unfolding asked placeLimits
+returns-4 c = rw (c .before .before .place4 .given .1, c .is-coordinate3 .ensures)
 
 returns-5 : tie.Need-returns-5
-unfolding placeLimits
-returns-5 c = rw (is-unknown _ (c .before .before .before .before .before .before .args .a .now) (c .before .before .before .before .before .before .args .b .now) (c .before .before .before .before .before .before .args .number) (c .if4 .left))
+unfolding asked placeLimits
+returns-5 c = rw (c .before .before .place5 .given .1, c .is-coordinate4 .ensures)
+
+returns-6 : tie.Need-returns-6
+unfolding asked placeLimits
+returns-6 c = rw (c .before .before .place6 .given .1, c .is-coordinate5 .ensures)
 
 pub place-ok-spec : {M : Type 1} → statement M
 place-ok-spec =
     tie.close
     (tie.spec
-    all-coordinates-requires
-    all-coordinates-requires-2
-    returns
-    all-coordinates-requires-3
+    enum-known-place
+    position-ok-requires
+    position-ok-requires-2
+    enum-known-place-2
+    position-ok-requires-3
     is-coordinate-requires
-    returns-2
-    all-coordinates-requires-4
-    all-coordinates-requires-5
+    enum-known-place-3
+    position-ok-requires-4
+    position-ok-requires-5
     is-coordinate-requires-2
-    returns-3
+    enum-known-place-4
     is-coordinate-requires-3
+    enum-known-place-5
+    is-coordinate-requires-4
+    enum-known-place-6
+    is-coordinate-requires-5
+    returns
+    returns-2
+    returns-3
     returns-4
-    returns-5)
+    returns-5
+    returns-6)
