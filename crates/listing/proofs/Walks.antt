@@ -1,18 +1,19 @@
--- The walk over the rows: what a turn adds to the rows gathered, and what the ids written are.
+-- The walk over the rows: what a turn adds to the rows gathered, what is gathered at its end, and what the ids written are.
 -- Assumes nothing.
 use Prim.Native.Nat.{ℕ, zero, suc, _+_, _-_, _≤_, _<_}
 use native.Mathlib.Numerals.{add-one}
 use native.Mathlib.Omega.{arith}
-use mathlib.Core.Path.{_≡_, refl, sym, ap, _∙_, subst}
+use mathlib.Core.Path.{_≡_, refl, sym, ap, ap₂, _∙_, subst}
 use mathlib.Core.Bool.{Bool, true, false, cond, _&&_}
 use mathlib.Core.List.{List, [], _∷_, _++_, map, map-append, append-nil}
 use lib.Dec.{ltb}
-use lib.ListN.{length, getD, take, drop, set, length-append, length-map}
-use lib.Seq.{getD-set-same, getD-set-other, take-suc, take-suc-set, take-set-le, length-take-le, drop-cons, set-at, append-snoc}
+use lib.ListN.{length, getD, take, drop, set, length-append, length-map, length-set}
+use lib.Seq.{getD-set-same, getD-set-other, getD-take, take-append-seam, take-suc, take-suc-set, take-set-le, length-take-le, drop-cons, set-at, append-snoc}
 use lib.Ieee.{Float}
-use borrow.Author.Tests.{lt-ltb, le-ltb}
-use Rattle.basics.specs.Bools.{by-test}
+use borrow.Author.Tests.{ltb-true, lt-ltb, le-ltb}
+use Rattle.basics.specs.Bools.{by-test, and-left, and-right}
 use Rattle.basics.specs.Lists.{keep, tab, enter, over}
+use Rattle.basics.specs.Laws.{map-take}
 use Rattle.basics.specs.Refusals.{fault}
 use Rattle.geometry.specs.declared.Position.{Position}
 use Rattle.geometry.specs.Position.{coords}
@@ -20,14 +21,17 @@ use Rattle.grid_search.specs.declared.GridSearch.{GridSearch}
 use Rattle.table.specs.declared.Row.{Row}
 use Rattle.table.specs.Rows.{rowAt, rowsOf, keyIn, idIn}
 use Rattle.sorting.specs.Sorted.{distinct}
-use Rattle.sorting.specs.Posts.{within, Selected}
+use Rattle.sorting.specs.Posts.{within, Below}
+use Rattle.sorting.proofs.Mixes.{getD-map}
 use Rattle.sorting.proofs.Heaps.{by-index}
 use Rattle.listing.specs.declared.Place.{Place}
 use Rattle.listing.specs.declared.Filter.{Filter}
+use Rattle.listing.specs.declared.Listed.{Listed}
 use Rattle.listing.specs.declared.Listed.the-variants.{Count, Refused}
+use Rattle.listing.specs.declared.walk.Reached.{Reached}
 use Rattle.listing.specs.Place.{Asked, asked, isOn, containerNear, pointNear, passes}
 use Rattle.listing.specs.Listing.{idsOf, listOut}
-use Rattle.listing.specs.Posts.{Remembered, Gathered, Marked, Out}
+use Rattle.listing.specs.Posts.{Remembered, Gathered, Walked, Out}
 
 -- ---- one more row
 
@@ -45,6 +49,13 @@ ids-distinct : (p : Row → Bool) (rows : List Row) → idsOf p rows ≡ distinc
 unfolding idsOf keep distinct
 ids-distinct p [] = refl
 ids-distinct p (r ∷ rows) = by-test (p r) (λ e. rw e (ap (enter (idIn r)) (ids-distinct p rows))) (λ e. rw e (ids-distinct p rows))
+
+-- the two tests of a turn
+pub goes-on : (i used n room : ℕ) → (ltb i used && ltb n room) ≡ true → (i < used) × (n < room)
+goes-on i used n room e = (ltb-true i used (and-left (ltb i used) (ltb n room) e), ltb-true n room (and-right (ltb i used) (ltb n room) e))
+
+remembered-next : (s : GridSearch) (p : Place) (keys : List ℕ) (i : ℕ) (near : Bool) → near ≡ containerNear s (asked (s .ndim) p) (getD keys i 0) → Remembered s p keys (i + 1) near
+remembered-next s p keys i near e h = let q : i + 1 - 1 ≡ i = omega arith in rw q e
 
 module _ (s : GridSearch) (p : Place) (f : Filter) (keys ids : List ℕ) (xs ys zs : List Float) where
   abbrev on : Row → Bool
@@ -95,14 +106,57 @@ module _ (s : GridSearch) (p : Place) (f : Filter) (keys ids : List ℕ) (xs ys 
             ∙ sym (ids-next i ∙ ap (λ (c : Bool). map idIn (keep on (rowsOf keys ids xs ys zs i)) ++ cond c (getD ids i 0 ∷ []) []) (sym e ∙ q) ∙ append-nil (map idIn (keep on (rowsOf keys ids xs ys zs i))));
       }))
 
-  -- one of them selected for each id: the ids of the listing
-  pub marked : {used n m : ℕ} {marks marks′ : List ℕ} → used ≤ length marks → length marks′ ≡ length marks
-      → Gathered s p f keys ids xs ys zs used n marks → Selected ids n marks m marks′ → Marked s p f keys ids xs ys zs used m marks′
-  marked {used} room same g a = record {
-    inside = omega (arith, g .upto, a .upto);
-    below = a .below;
-    are = a .by-key ∙ ap distinct (g .ids-are) ∙ sym (ids-distinct on (rowsOf keys ids xs ys zs used));
-  }
+  -- the same marks at the front of another list
+  gathered-copied : {i n : ℕ} {marks : List ℕ} (more : List ℕ) → n ≤ length marks → Gathered s p f keys ids xs ys zs i n marks → Gathered s p f keys ids xs ys zs i n (over (take n marks) more)
+  unfolding over
+  gathered-copied {i} {n} {marks} more h g =
+      let len : length (take n marks) ≡ n = length-take-le n marks h in
+      let same : take n (over (take n marks) more) ≡ take n marks =
+      ap (λ (k : ℕ). take k (over (take n marks) more)) (sym len) ∙ take-append-seam (take n marks) (drop (length (take n marks)) more) in
+      record {
+        upto = g .upto;
+        below = λ j k. subst (λ (v : ℕ). v < i) (sym (sym (getD-take n (over (take n marks) more) j 0 k) ∙ ap (λ (l : List ℕ). getD l j 0) same ∙ getD-take n marks j 0 k)) (g .below j k);
+        ids-are = ap (map (within ids)) same ∙ g .ids-are;
+      }
+
+  -- ---- a walk: its start, one row more, and its end
+
+  abbrev at : ℕ → ℕ → Bool → Reached
+  at i n near = record { row = i; marked = n; near = near }
+
+  pub walked-none : (used : ℕ) (marks : List ℕ) → Walked s p f keys ids xs ys zs used (at 0 0 false) marks
+  walked-none used marks = record { upto = omega arith; inside = omega arith; remembered = λ h. absurd (omega arith); gathered = gathered-none marks }
+
+  pub walked-next : {used i n : ℕ} {near : Bool} {marks : List ℕ} (now b : Bool) (m : ℕ) → Walked s p f keys ids xs ys zs used (at i n near) marks → i < used → n < length marks
+      → now ≡ containerNear s (asked (s .ndim) p) (getD keys i 0) → b ≡ on (row i) → m ≡ cond b (n + 1) n → Walked s p f keys ids xs ys zs used (at (i + 1) m now) (set marks n i)
+  walked-next {used} {i} {n} {near} {marks} now b m w h room e k more =
+      let step : m ≤ n + 1 = by-test b (λ q. let c : m ≡ n + 1 = rw q at more in omega (arith, c)) (λ q. let c : m ≡ n = rw q at more in omega (arith, c)) in
+      record {
+        upto = omega (arith, h);
+        inside = omega (arith, length-set marks n i, room, step);
+        remembered = remembered-next s p keys i now e;
+        gathered = gathered-next b m (w .gathered) room k more;
+      }
+
+  pub walked-copied : {used : ℕ} {r : Reached} {few : List ℕ} (more : List ℕ) {after : List ℕ} → after ≡ over (take (r .marked) few) more → Walked s p f keys ids xs ys zs used r few → Walked s p f keys ids xs ys zs used r after
+  unfolding over
+  walked-copied {used} {r} {few} more e w = subst (Walked s p f keys ids xs ys zs used r) (sym e) (record {
+    upto = w .upto;
+    inside = omega (arith, length-append (take (r .marked) few) (drop (length (take (r .marked) few)) more), length-take-le (r .marked) few (w .inside));
+    remembered = w .remembered;
+    gathered = gathered-copied more (w .inside) (w .gathered);
+  })
+
+  pub walked-below : {used : ℕ} {r : Reached} {marks : List ℕ} → Walked s p f keys ids xs ys zs used r marks → used ≤ length ids → Below (length ids) (r .marked) marks
+  walked-below w h j k = omega (arith, w .gathered .below j k, w .upto)
+
+  -- where the last row was reached, the ids of the marks are those of the listing
+  pub walked-all : {used : ℕ} {r : Reached} {marks list after : List ℕ} {a : Listed} → Walked s p f keys ids xs ys zs used r marks → used ≤ r .row
+      → Out (distinct (map (within ids) (take (r .marked) marks))) list a after → Out (idsOf on (rowsOf keys ids xs ys zs used)) list a after
+  walked-all {used} {r} {marks} {list} {after} {a} w h o =
+      let e : r .row ≡ used = omega (arith, w .upto) in
+      let g : Gathered s p f keys ids xs ys zs used (r .marked) marks = subst (λ (k : ℕ). Gathered s p f keys ids xs ys zs k (r .marked) marks) e (w .gathered) in
+      subst (λ (l : List ℕ). Out l list a after) (ap distinct (g .ids-are) ∙ sym (ids-distinct on (rowsOf keys ids xs ys zs used))) o
 
 -- ---- whether a row counts, by its container and by itself
 
@@ -115,17 +169,11 @@ module _ (s : GridSearch) (p : Asked) (f : Filter) (row : Row) (near : Bool) (kn
   unfolding isOn
   row-near e at r same g = rw (sym known ∙ e) (g ∙ ap (λ (x : Position). pointNear s p (coords (s .ndim) x) && passes f (coords (s .ndim) x)) same)
 
-pub remembered-next : (s : GridSearch) (p : Place) (keys : List ℕ) (i : ℕ) (near : Bool) → near ≡ containerNear s (asked (s .ndim) p) (getD keys i 0) → Remembered s p keys (i + 1) near
-remembered-next s p keys i near e h = let q : i + 1 - 1 ≡ i = omega arith in rw q e
-
 -- ---- the two ways out
 
-module _ {s : GridSearch} {p : Place} {f : Filter} {keys ids : List ℕ} {xs ys zs : List Float} {used n : ℕ} {marks : List ℕ} (m : Marked s p f keys ids xs ys zs used n marks) (list : List ℕ) where
-  abbrev out : List ℕ
-  out = idsOf (isOn s (asked (s .ndim) p) f) (rowsOf keys ids xs ys zs used)
-
+module _ (ids marks out : List ℕ) (n : ℕ) (inside : n ≤ length marks) (are : map (within ids) (take n marks) ≡ out) (list : List ℕ) where
   count : length out ≡ n
-  count = ap length (sym (m .are)) ∙ length-map (take n marks) (within ids) ∙ length-take-le n marks (m .inside)
+  count = ap length (sym are) ∙ length-map (take n marks) (within ids) ∙ length-take-le n marks inside
 
   pub out-short : length list < n → Out out list (Refused 14) list
   unfolding listOut fault
@@ -135,22 +183,28 @@ module _ {s : GridSearch} {p : Place} {f : Filter} {keys ids : List ℕ} {xs ys 
   unfolding listOut fault
   out-long after h e =
       let t : ltb (length list) (length out) ≡ false = le-ltb (length list) (length out) (omega (arith, count)) in
-      record { answers = rw (t, count); list-is = rw t (e ∙ ap (λ (l : List ℕ). over l list) (m .are)) }
+      record { answers = rw (t, count); list-is = rw t (e ∙ ap (λ (l : List ℕ). over l list) are) }
 
--- ---- the ids written: one more
+-- ---- a list written at its front: one more
 
-pub written-next : (keys marks list : List ℕ) (j : ℕ) → j < length marks → j < length list
-    → set (over (map (within keys) (take j marks)) list) j (within keys (getD marks j 0)) ≡ over (map (within keys) (take (j + 1) marks)) list
+pub copied-next : (new list : List ℕ) (j : ℕ) → j < length new → j < length list → set (over (take j new) list) j (getD new j 0) ≡ over (take (j + 1) new) list
 unfolding over
-written-next keys marks list j h room =
-    let l : List ℕ = map (within keys) (take j marks) in
-    let y : ℕ = within keys (getD marks j 0) in
-    let len : length l ≡ j = length-map (take j marks) (within keys) ∙ length-take-le j marks (omega arith) in
+copied-next new list j h room =
+    let l : List ℕ = take j new in
+    let y : ℕ = getD new j 0 in
+    let len : length l ≡ j = length-take-le j new (omega arith) in
     let len′ : length (l ++ y ∷ []) ≡ suc j = length-append l (y ∷ []) ∙ omega (arith, len) in
-    let more : map (within keys) (take (j + 1) marks) ≡ l ++ y ∷ [] = rw (add-one j, take-suc marks j 0 h) (map-append (within keys) (take j marks) (getD marks j 0 ∷ [])) in
+    let more : take (j + 1) new ≡ l ++ y ∷ [] = rw (add-one j, take-suc new j 0 h) in
     ap (λ (k : ℕ). set (l ++ drop k list) j y) len
     ∙ ap (λ (r : List ℕ). set (l ++ r) j y) (drop-cons list j 0 room)
     ∙ set-at l (getD list j 0) (drop (suc j) list) y j len
     ∙ sym (append-snoc l y (drop (suc j) list))
     ∙ ap (λ (k : ℕ). (l ++ y ∷ []) ++ drop k list) (sym len′)
     ∙ ap (λ (r : List ℕ). r ++ drop (length r) list) (sym more)
+
+pub written-next : (keys marks list : List ℕ) (j : ℕ) → j < length marks → j < length list
+    → set (over (map (within keys) (take j marks)) list) j (within keys (getD marks j 0)) ≡ over (map (within keys) (take (j + 1) marks)) list
+written-next keys marks list j h room =
+    ap₂ (λ (l : List ℕ) (y : ℕ). set (over l list) j y) (map-take (within keys) j marks) (sym (getD-map (within keys) marks j h))
+    ∙ copied-next (map (within keys) marks) list j (omega (arith, length-map marks (within keys))) room
+    ∙ ap (λ (l : List ℕ). over l list) (sym (map-take (within keys) (j + 1) marks))

@@ -19,8 +19,9 @@ use Rattle.sorting.specs.Posts.{within, Below}
 use Rattle.listing.specs.declared.Place.{Place}
 use Rattle.listing.specs.declared.Filter.{Filter}
 use Rattle.listing.specs.declared.Listed.{Listed}
+use Rattle.listing.specs.declared.walk.Reached.{Reached}
 use Rattle.listing.specs.Place.{askedOf, asked, wrongLength, unfit, unfitFilter, containerNear, isOn}
-use Rattle.listing.specs.Listing.{idsOf, listOut, listed}
+use Rattle.listing.specs.Listing.{listOut, listed}
 
 -- A place that the code makes of a number and slices: the one that they name, where it is one and the slices have the right
 -- length, and else of the same kind, so that 16 says the same of both.
@@ -46,11 +47,12 @@ pub record Gathered (s : GridSearch) (p : Place) (f : Filter) (keys ids : List �
   pub below : Below i n marks
   pub ids-are : map (within ids) (take n marks) ≡ map idIn (keep (isOn s (asked (s .ndim) p) f) (rowsOf keys ids xs ys zs i))
 
--- the first n marks name the ids of the rows that count, ascending, once each
-pub record Marked (s : GridSearch) (p : Place) (f : Filter) (keys ids : List ℕ) (xs ys zs : List Float) (used n : ℕ) (marks : List ℕ) : Type 0 where
-  pub inside : n ≤ length marks
-  pub below : Below (length ids) n marks
-  pub are : map (within ids) (take n marks) ≡ idsOf (isOn s (asked (s .ndim) p) f) (rowsOf keys ids xs ys zs used)
+-- a walk came to a row, and has marked the rows before it that count
+pub record Walked (s : GridSearch) (p : Place) (f : Filter) (keys ids : List ℕ) (xs ys zs : List Float) (used : ℕ) (r : Reached) (marks : List ℕ) : Type 0 where
+  pub upto : r .row ≤ used
+  pub inside : r .marked ≤ length marks
+  pub remembered : Remembered s p keys (r .row) (r .near)
+  pub gathered : Gathered s p f keys ids xs ys zs (r .row) (r .marked) marks
 
 -- what is returned, and what the list holds at exit, where only 14 can turn the call away
 pub record Out (ids list : List ℕ) (r : Listed) (after : List ℕ) : Type 0 where

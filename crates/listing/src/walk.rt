@@ -1,5 +1,5 @@
 // The walk over the rows: the rows that count are gathered as indices, one is selected for each id, and the ids are
-// written.
+// written. Indices stand in 2 KiB of the stack; only where more than 1,024 rows count, in 128 KiB.
 ghost use Prim.Native.Nat.{ℕ, _+_, _≤_, _<_};
 ghost use mathlib.Core.Path.{_≡_};
 ghost use mathlib.Core.Bool.{true, false, cond};
@@ -7,12 +7,13 @@ ghost use mathlib.Core.List.{map};
 ghost use lib.ListN.{length, getD, take};
 ghost use Rattle.basics.specs.Lists.{over};
 ghost use Rattle.table.specs.Rows.{rowAt, rowsOf};
+ghost use Rattle.sorting.specs.Sorted.{distinct};
 ghost use Rattle.sorting.specs.Posts.{within, Below};
 ghost use Rattle.listing.specs.Place.{asked, isOn, containerNear};
 ghost use Rattle.floats.specs.Rounded.{_⊕_};
 ghost use Rattle.listing.specs.Window.{Made};
 ghost use Rattle.listing.specs.Listing.{idsOf};
-ghost use Rattle.listing.specs.Posts.{Known, Remembered, Gathered, Marked, Out};
+ghost use Rattle.listing.specs.Posts.{Known, Remembered, Walked, Out};
 use crate::Filter;
 use crate::Listed;
 use crate::Place;
@@ -87,8 +88,16 @@ fn advanced(n: usize, more: bool) -> usize
     if more { n + 1 } else { n }
 }
 
-// Gathers the rows that count at the front of `marks`, with the place made ready. Returns how many there are.
-fn gather_with(
+// How far a walk over the rows came: the row that it looks at next, how many of those before count, and whether the container
+// of the last one is near.
+pub(crate) struct Reached {
+    pub(crate) row: usize,
+    pub(crate) marked: usize,
+    pub(crate) near: bool,
+}
+
+// Goes on over the rows, and puts those that count behind the marked ones, up to the last row or as long as there is room.
+fn gather(
     sheet: GridSearch,
     keys: &[u64],
     ids: &[u64],
@@ -99,16 +108,19 @@ fn gather_with(
     place: Place,
     filter: Filter,
     r: Ready,
+    from: Reached,
     marks: &mut [u16],
-) -> usize
-    requires { ⌜ Known sheet (now keys) (now ids) (now xs) (now ys) (now zs) used place filter ⌝ ∗ ⌜ used ≤ length (now marks) ⌝ }
+) -> Reached
+    requires { ⌜ Known sheet (now keys) (now ids) (now xs) (now ys) (now zs) used place filter ⌝ }
     requires { ⌜ Made (sheet .ndim) place (sheet .radius ⊕ sheet .«tol_dist») (sheet .«tol_dist») r ⌝ }
-    ensures { λ n. ⌜ Gathered sheet place filter (now (keys .entry)) (now (ids .entry)) (now (xs .entry)) (now (ys .entry)) (now (zs .entry)) used n (now (marks .exit)) ⌝ }
+    requires { ⌜ Walked sheet place filter (now keys) (now ids) (now xs) (now ys) (now zs) used from (now marks) ⌝ }
+    ensures { λ to. ⌜ Walked sheet place filter (now (keys .entry)) (now (ids .entry)) (now (xs .entry)) (now (ys .entry)) (now (zs .entry)) used to (now (marks .exit)) ⌝ }
+    ensures { λ to. ⌜ (to .row < used → length (now (marks .exit)) ≤ to .marked) ⌝ }
 {
-    let mut n = 0;
-    let mut near = false;
-    let mut i = 0;
-    while i < used {
+    let mut n = from.marked;
+    let mut near = from.near;
+    let mut i = from.row;
+    while (i < used) & (n < marks.len()) {
         near = near_now(
             sheet,
             keys,
@@ -143,27 +155,11 @@ fn gather_with(
         );
         i += 1;
     }
-    n
-}
-
-// Gathers the rows that count at the front of `marks`. Returns how many there are.
-fn gather(
-    sheet: GridSearch,
-    keys: &[u64],
-    ids: &[u64],
-    xs: &[f64],
-    ys: &[f64],
-    zs: &[f64],
-    used: usize,
-    place: Place,
-    filter: Filter,
-    marks: &mut [u16],
-) -> usize
-    requires { ⌜ Known sheet (now keys) (now ids) (now xs) (now ys) (now zs) used place filter ⌝ ∗ ⌜ used ≤ length (now marks) ⌝ }
-    ensures { λ r. ⌜ Gathered sheet place filter (now (keys .entry)) (now (ids .entry)) (now (xs .entry)) (now (ys .entry)) (now (zs .entry)) used r (now (marks .exit)) ⌝ }
-{
-    let r = near::made_ready(sheet, place);
-    gather_with(sheet, keys, ids, xs, ys, zs, used, place, filter, r, marks)
+    Reached {
+        row: i,
+        marked: n,
+        near,
+    }
 }
 
 // The id of a mark.
@@ -186,83 +182,33 @@ fn write_ids(marks: &[u16], n: usize, ids: &[u64], list: &mut [u64])
     }
 }
 
-// Marks one row that counts for each id, as the ids ascend. Returns how many there are.
-fn mark(
-    sheet: GridSearch,
-    keys: &[u64],
-    ids: &[u64],
-    xs: &[f64],
-    ys: &[f64],
-    zs: &[f64],
-    used: usize,
-    place: Place,
-    filter: Filter,
-    marks: &mut [u16],
-) -> usize
-    requires { ⌜ Known sheet (now keys) (now ids) (now xs) (now ys) (now zs) used place filter ⌝ ∗ ⌜ used ≤ length (now marks) ⌝ }
-    ensures { λ r. ⌜ Marked sheet place filter (now (keys .entry)) (now (ids .entry)) (now (xs .entry)) (now (ys .entry)) (now (zs .entry)) used r (now (marks .exit)) ⌝ }
+// Writes the ids of the first n marks to the front of the list, ascending and once each: how many they are, or 14.
+fn list_marked(marks: &mut [u16], n: usize, ids: &[u64], list: &mut [u64]) -> Listed
+    requires { ⌜ n ≤ length (now marks) ⌝ ∗ ⌜ Below (length (now ids)) n (now marks) ⌝ }
+    ensures { λ r. ⌜ Out (distinct (map (within (now (ids .entry))) (take n (now (marks .entry))))) (now (list .entry)) r (now (list .exit)) ⌝ }
 {
-    let n = gather(sheet, keys, ids, xs, ys, zs, used, place, filter, marks);
-    sorting::select_by(marks, n, ids)
-}
-
-// The listing, with room for the marks of all rows.
-fn list_with(
-    sheet: GridSearch,
-    keys: &[u64],
-    ids: &[u64],
-    xs: &[f64],
-    ys: &[f64],
-    zs: &[f64],
-    used: usize,
-    place: Place,
-    filter: Filter,
-    marks: &mut [u16],
-    list: &mut [u64],
-) -> Listed
-    requires { ⌜ Known sheet (now keys) (now ids) (now xs) (now ys) (now zs) used place filter ⌝ ∗ ⌜ used ≤ length (now marks) ⌝ }
-    ensures { λ r. ⌜ Out (idsOf (isOn sheet (asked (sheet .ndim) place) filter) (rowsOf (now (keys .entry)) (now (ids .entry)) (now (xs .entry)) (now (ys .entry)) (now (zs .entry)) used)) (now (list .entry)) r (now (list .exit)) ⌝ }
-{
-    let n = mark(sheet, keys, ids, xs, ys, zs, used, place, filter, marks);
-    if list.len() < n {
+    let m = sorting::select_by(marks, n, ids);
+    if list.len() < m {
         return Listed::Refused(14);
     }
-    write_ids(marks, n, ids, list);
-    Listed::Count(n)
+    write_ids(marks, m, ids, list);
+    Listed::Count(m)
 }
 
-// The same with room for few rows, and for as many as there may be.
-fn list_few(
-    sheet: GridSearch,
-    keys: &[u64],
-    ids: &[u64],
-    xs: &[f64],
-    ys: &[f64],
-    zs: &[f64],
-    used: usize,
-    place: Place,
-    filter: Filter,
-    list: &mut [u64],
-) -> Listed
-    requires { ⌜ Known sheet (now keys) (now ids) (now xs) (now ys) (now zs) used place filter ⌝ ∗ ⌜ used ≤ 1024 ⌝ }
-    ensures { λ r. ⌜ Out (idsOf (isOn sheet (asked (sheet .ndim) place) filter) (rowsOf (now (keys .entry)) (now (ids .entry)) (now (xs .entry)) (now (ys .entry)) (now (zs .entry)) used)) (now (list .entry)) r (now (list .exit)) ⌝ }
+// Copies the first n marks.
+fn copy_marks(from: &[u16], n: usize, to: &mut [u16])
+    requires { ⌜ n ≤ length (now from) ⌝ ∗ ⌜ n ≤ length (now to) ⌝ }
+    ensures { λ _. ⌜ now (to .exit) ≡ over (take n (now (from .entry))) (now (to .entry)) ⌝ }
 {
-    let mut marks = [0u16; 1024];
-    list_with(
-        sheet,
-        keys,
-        ids,
-        xs,
-        ys,
-        zs,
-        used,
-        place,
-        filter,
-        &mut marks,
-        list,
-    )
+    let mut j = 0;
+    while j < n {
+        to[j] = from[j];
+        j += 1;
+    }
 }
 
+// Goes on where there was no room for more than the `few` marks: here every row has room. So it never calls itself; that it
+// could keeps the compiler from merging it into its caller, and the 128 KiB of its marks are taken where it is called only.
 fn list_many(
     sheet: GridSearch,
     keys: &[u64],
@@ -273,13 +219,19 @@ fn list_many(
     used: usize,
     place: Place,
     filter: Filter,
+    r: Ready,
+    from: Reached,
+    few: &[u16],
     list: &mut [u64],
 ) -> Listed
     requires { ⌜ Known sheet (now keys) (now ids) (now xs) (now ys) (now zs) used place filter ⌝ }
+    requires { ⌜ Made (sheet .ndim) place (sheet .radius ⊕ sheet .«tol_dist») (sheet .«tol_dist») r ⌝ }
+    requires { ⌜ Walked sheet place filter (now keys) (now ids) (now xs) (now ys) (now zs) used from (now few) ⌝ }
     ensures { λ r. ⌜ Out (idsOf (isOn sheet (asked (sheet .ndim) place) filter) (rowsOf (now (keys .entry)) (now (ids .entry)) (now (xs .entry)) (now (ys .entry)) (now (zs .entry)) used)) (now (list .entry)) r (now (list .exit)) ⌝ }
 {
     let mut marks = [0u16; 65536];
-    list_with(
+    copy_marks(few, from.marked, &mut marks);
+    let to = gather(
         sheet,
         keys,
         ids,
@@ -289,9 +241,28 @@ fn list_many(
         used,
         place,
         filter,
+        r,
+        from,
         &mut marks,
-        list,
-    )
+    );
+    if to.row < used {
+        return list_many(
+            sheet,
+            keys,
+            ids,
+            xs,
+            ys,
+            zs,
+            used,
+            place,
+            filter,
+            r,
+            to,
+            &marks,
+            list,
+        );
+    }
+    list_marked(&mut marks, to.marked, ids, list)
 }
 
 // The ids of the rows on a place, ascending, once each: how many they are, or 14.
@@ -310,9 +281,43 @@ pub(crate) fn list_on(
     requires { ⌜ Known sheet (now keys) (now ids) (now xs) (now ys) (now zs) used place filter ⌝ }
     ensures { λ r. ⌜ Out (idsOf (isOn sheet (asked (sheet .ndim) place) filter) (rowsOf (now (keys .entry)) (now (ids .entry)) (now (xs .entry)) (now (ys .entry)) (now (zs .entry)) used)) (now (list .entry)) r (now (list .exit)) ⌝ }
 {
-    if used <= 1024 {
-        list_few(sheet, keys, ids, xs, ys, zs, used, place, filter, list)
-    } else {
-        list_many(sheet, keys, ids, xs, ys, zs, used, place, filter, list)
+    let r = near::made_ready(sheet, place);
+    let start = Reached {
+        row: 0,
+        marked: 0,
+        near: false,
+    };
+    let mut few = [0u16; 1024];
+    let to = gather(
+        sheet,
+        keys,
+        ids,
+        xs,
+        ys,
+        zs,
+        used,
+        place,
+        filter,
+        r,
+        start,
+        &mut few,
+    );
+    if to.row < used {
+        return list_many(
+            sheet,
+            keys,
+            ids,
+            xs,
+            ys,
+            zs,
+            used,
+            place,
+            filter,
+            r,
+            to,
+            &few,
+            list,
+        );
     }
+    list_marked(&mut few, to.marked, ids, list)
 }
