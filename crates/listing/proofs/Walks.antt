@@ -10,8 +10,8 @@ use lib.Dec.{ltb}
 use lib.ListN.{length, getD, take, drop, set, length-append, length-map, length-set}
 use lib.Seq.{getD-set-same, getD-set-other, getD-take, take-append-seam, take-suc, take-suc-set, take-set-le, length-take-le, drop-cons, set-at, append-snoc}
 use lib.Ieee.{Float}
-use borrow.Author.Tests.{ltb-true, lt-ltb, le-ltb}
-use Rattle.basics.specs.Bools.{by-test, and-left, and-right}
+use borrow.Author.Tests.{lt-ltb, le-ltb}
+use Rattle.basics.specs.Bools.{by-test}
 use Rattle.basics.specs.Lists.{keep, tab, enter, over}
 use Rattle.basics.specs.Laws.{map-take}
 use Rattle.basics.specs.Refusals.{fault}
@@ -50,10 +50,6 @@ unfolding idsOf keep distinct
 ids-distinct p [] = refl
 ids-distinct p (r ∷ rows) = by-test (p r) (λ e. rw e (ap (enter (idIn r)) (ids-distinct p rows))) (λ e. rw e (ids-distinct p rows))
 
--- the two tests of a turn
-pub goes-on : (i used n room : ℕ) → (ltb i used && ltb n room) ≡ true → (i < used) × (n < room)
-goes-on i used n room e = (ltb-true i used (and-left (ltb i used) (ltb n room) e), ltb-true n room (and-right (ltb i used) (ltb n room) e))
-
 remembered-next : (s : GridSearch) (p : Place) (keys : List ℕ) (i : ℕ) (near : Bool) → near ≡ containerNear s (asked (s .ndim) p) (getD keys i 0) → Remembered s p keys (i + 1) near
 remembered-next s p keys i near e h = let q : i + 1 - 1 ≡ i = omega arith in rw q e
 
@@ -80,31 +76,37 @@ module _ (s : GridSearch) (p : Place) (f : Filter) (keys ids : List ℕ) (xs ys 
   unfolding rowsOf keep
   gathered-none marks = record { upto = omega arith; below = λ i h. absurd (omega arith); ids-are = refl }
 
-  -- the row is marked at the end, and stays marked where it counts
-  pub gathered-next : {i n : ℕ} {marks : List ℕ} (b : Bool) (r : ℕ) → Gathered s p f keys ids xs ys zs i n marks → n < length marks → b ≡ on (row i) → r ≡ cond b (n + 1) n
-      → Gathered s p f keys ids xs ys zs (i + 1) r (set marks n i)
-  gathered-next {i} {n} {marks} b r g room e more =
-      by-test b
-      (λ q. let c : r ≡ n + 1 = rw q at more in
-      subst (λ (m : ℕ). Gathered s p f keys ids xs ys zs (i + 1) m (set marks n i)) (sym c) (record {
-        upto = omega (arith, g .upto);
-        below = λ k h. by-index k n
-            (λ w. subst (λ (m : ℕ). getD (set marks n i) m 0 < i + 1) (sym w) (subst (λ (v : ℕ). v < i + 1) (sym (getD-set-same marks n i 0 room)) (omega arith)))
-            (λ w. subst (λ (v : ℕ). v < i + 1) (sym (getD-set-other marks n k i 0 w)) (omega (arith, g .below k (omega arith))));
-        ids-are =
-            ap (map (within ids)) (ap (λ (m : ℕ). take m (set marks n i)) (add-one n) ∙ take-suc-set marks n i room)
-            ∙ map-append (within ids) (take n marks) (i ∷ [])
-            ∙ ap (λ (l : List ℕ). l ++ getD ids i 0 ∷ []) (g .ids-are)
-            ∙ sym (ids-next i ∙ ap (λ (c : Bool). map idIn (keep on (rowsOf keys ids xs ys zs i)) ++ cond c (getD ids i 0 ∷ []) []) (sym e ∙ q));
-      }))
-      (λ q. let c : r ≡ n = rw q at more in
-      subst (λ (m : ℕ). Gathered s p f keys ids xs ys zs (i + 1) m (set marks n i)) (sym c) (record {
-        upto = omega (arith, g .upto);
-        below = λ k h. subst (λ (v : ℕ). v < i + 1) (sym (getD-set-other marks n k i 0 (λ w. omega arith))) (omega (arith, g .below k h));
-        ids-are =
-            ap (map (within ids)) (take-set-le n marks n i (omega arith)) ∙ g .ids-are
-            ∙ sym (ids-next i ∙ ap (λ (c : Bool). map idIn (keep on (rowsOf keys ids xs ys zs i)) ++ cond c (getD ids i 0 ∷ []) []) (sym e ∙ q) ∙ append-nil (map idIn (keep on (rowsOf keys ids xs ys zs i))));
-      }))
+  -- a row that does not count is passed
+  gathered-passed : {i n : ℕ} {marks : List ℕ} → Gathered s p f keys ids xs ys zs i n marks → on (row i) ≡ false → Gathered s p f keys ids xs ys zs (i + 1) n marks
+  gathered-passed {i} {n} {marks} g e = record {
+    upto = omega (arith, g .upto);
+    below = λ k h. omega (arith, g .below k h);
+    ids-are =
+        g .ids-are
+        ∙ sym (ids-next i ∙ ap (λ (c : Bool). map idIn (keep on (rowsOf keys ids xs ys zs i)) ++ cond c (getD ids i 0 ∷ []) []) e ∙ append-nil (map idIn (keep on (rowsOf keys ids xs ys zs i))));
+  }
+
+  -- one that counts is marked
+  gathered-marked : {i n : ℕ} {marks : List ℕ} → Gathered s p f keys ids xs ys zs i n marks → n < length marks → on (row i) ≡ true → Gathered s p f keys ids xs ys zs (i + 1) (n + 1) (set marks n i)
+  gathered-marked {i} {n} {marks} g room e = record {
+    upto = omega (arith, g .upto);
+    below = λ k h. by-index k n
+        (λ w. subst (λ (m : ℕ). getD (set marks n i) m 0 < i + 1) (sym w) (subst (λ (v : ℕ). v < i + 1) (sym (getD-set-same marks n i 0 room)) (omega arith)))
+        (λ w. subst (λ (v : ℕ). v < i + 1) (sym (getD-set-other marks n k i 0 w)) (omega (arith, g .below k (omega arith))));
+    ids-are =
+        ap (map (within ids)) (ap (λ (m : ℕ). take m (set marks n i)) (add-one n) ∙ take-suc-set marks n i room)
+        ∙ map-append (within ids) (take n marks) (i ∷ [])
+        ∙ ap (λ (l : List ℕ). l ++ getD ids i 0 ∷ []) (g .ids-are)
+        ∙ sym (ids-next i ∙ ap (λ (c : Bool). map idIn (keep on (rowsOf keys ids xs ys zs i)) ++ cond c (getD ids i 0 ∷ []) []) e);
+  }
+
+  -- what is written behind the marks counts for nothing
+  gathered-behind : {i n : ℕ} {marks : List ℕ} (v : ℕ) → Gathered s p f keys ids xs ys zs i n marks → Gathered s p f keys ids xs ys zs i n (set marks n v)
+  gathered-behind {i} {n} {marks} v g = record {
+    upto = g .upto;
+    below = λ k h. subst (λ (m : ℕ). m < i) (sym (getD-set-other marks n k v 0 (λ w. omega arith))) (g .below k h);
+    ids-are = ap (map (within ids)) (take-set-le n marks n v (omega arith)) ∙ g .ids-are;
+  }
 
   -- the same marks at the front of another list
   gathered-copied : {i n : ℕ} {marks : List ℕ} (more : List ℕ) → n ≤ length marks → Gathered s p f keys ids xs ys zs i n marks → Gathered s p f keys ids xs ys zs i n (over (take n marks) more)
@@ -127,16 +129,28 @@ module _ (s : GridSearch) (p : Place) (f : Filter) (keys ids : List ℕ) (xs ys 
   pub walked-none : (used : ℕ) (marks : List ℕ) → Walked s p f keys ids xs ys zs used (at 0 0 false) marks
   walked-none used marks = record { upto = omega arith; inside = omega arith; remembered = λ h. absurd (omega arith); gathered = gathered-none marks }
 
-  pub walked-next : {used i n : ℕ} {near : Bool} {marks : List ℕ} (now b : Bool) (m : ℕ) → Walked s p f keys ids xs ys zs used (at i n near) marks → i < used → n < length marks
-      → now ≡ containerNear s (asked (s .ndim) p) (getD keys i 0) → b ≡ on (row i) → m ≡ cond b (n + 1) n → Walked s p f keys ids xs ys zs used (at (i + 1) m now) (set marks n i)
-  walked-next {used} {i} {n} {near} {marks} now b m w h room e k more =
-      let step : m ≤ n + 1 = by-test b (λ q. let c : m ≡ n + 1 = rw q at more in omega (arith, c)) (λ q. let c : m ≡ n = rw q at more in omega (arith, c)) in
-      record {
-        upto = omega (arith, h);
-        inside = omega (arith, length-set marks n i, room, step);
-        remembered = remembered-next s p keys i now e;
-        gathered = gathered-next b m (w .gathered) room k more;
-      }
+  module _ {used i n : ℕ} {near : Bool} {marks : List ℕ} (now : Bool) (w : Walked s p f keys ids xs ys zs used (at i n near) marks) (h : i < used)
+      (e : now ≡ containerNear s (asked (s .ndim) p) (getD keys i 0)) where
+    pub walked-passed : on (row i) ≡ false → Walked s p f keys ids xs ys zs used (at (i + 1) n now) marks
+    walked-passed c = record { upto = omega (arith, h); inside = w .inside; remembered = remembered-next s p keys i now e; gathered = gathered-passed (w .gathered) c }
+
+    pub walked-next : (b : Bool) (m : ℕ) → b ≡ on (row i) → m ≡ cond b (n + 1) n → n < length marks → Walked s p f keys ids xs ys zs used (at (i + 1) m now) (set marks n i)
+    walked-next b m k more room =
+        by-test b
+        (λ q. let c : m ≡ n + 1 = rw q at more in
+        subst (λ (v : ℕ). Walked s p f keys ids xs ys zs used (at (i + 1) v now) (set marks n i)) (sym c) (record {
+          upto = omega (arith, h);
+          inside = omega (arith, length-set marks n i, room);
+          remembered = remembered-next s p keys i now e;
+          gathered = gathered-marked (w .gathered) room (sym k ∙ q);
+        }))
+        (λ q. let c : m ≡ n = rw q at more in
+        subst (λ (v : ℕ). Walked s p f keys ids xs ys zs used (at (i + 1) v now) (set marks n i)) (sym c) (record {
+          upto = omega (arith, h);
+          inside = omega (arith, length-set marks n i, room);
+          remembered = remembered-next s p keys i now e;
+          gathered = gathered-passed (gathered-behind i (w .gathered)) (sym k ∙ q);
+        }))
 
   pub walked-copied : {used : ℕ} {r : Reached} {few : List ℕ} (more : List ℕ) {after : List ℕ} → after ≡ over (take (r .marked) few) more → Walked s p f keys ids xs ys zs used r few → Walked s p f keys ids xs ys zs used r after
   unfolding over
@@ -160,14 +174,14 @@ module _ (s : GridSearch) (p : Place) (f : Filter) (keys ids : List ℕ) (xs ys 
 
 -- ---- whether a row counts, by its container and by itself
 
-module _ (s : GridSearch) (p : Asked) (f : Filter) (row : Row) (near : Bool) (known : near ≡ containerNear s p (keyIn row)) where
-  pub row-far : near ≡ false → false ≡ isOn s p f row
+module _ (s : GridSearch) (p : Asked) (f : Filter) (row : Row) where
+  pub row-far : containerNear s p (keyIn row) ≡ false → isOn s p f row ≡ false
   unfolding isOn
-  row-far e = rw (sym known ∙ e)
+  row-far e = rw e
 
-  pub row-near : near ≡ true → (at : Position) (r : Bool) → at ≡ row .at → r ≡ (pointNear s p (coords (s .ndim) at) && passes f (coords (s .ndim) at)) → r ≡ isOn s p f row
+  pub row-near : containerNear s p (keyIn row) ≡ true → (at : Position) (r : Bool) → at ≡ row .at → r ≡ (pointNear s p (coords (s .ndim) at) && passes f (coords (s .ndim) at)) → r ≡ isOn s p f row
   unfolding isOn
-  row-near e at r same g = rw (sym known ∙ e) (g ∙ ap (λ (x : Position). pointNear s p (coords (s .ndim) x) && passes f (coords (s .ndim) x)) same)
+  row-near e at r same g = rw e (g ∙ ap (λ (x : Position). pointNear s p (coords (s .ndim) x) && passes f (coords (s .ndim) x)) same)
 
 -- ---- the two ways out
 

@@ -1,6 +1,6 @@
 // The walk over the rows: the rows that count are gathered as indices, one is selected for each id, and the ids are
 // written. Indices stand in 2 KiB of the stack; only where more than 1,024 rows count, in 128 KiB.
-ghost use Prim.Native.Nat.{ℕ, _+_, _≤_, _<_};
+ghost use Prim.Native.Nat.{_+_, _≤_, _<_};
 ghost use mathlib.Core.Path.{_≡_};
 ghost use mathlib.Core.Bool.{true, false, cond};
 ghost use mathlib.Core.List.{map};
@@ -53,7 +53,7 @@ fn near_now(
     near::container_near(sheet, place, r, ContainerKey(key))
 }
 
-// Whether row i counts, where its container is near or not.
+// Whether row i counts, where its container is near.
 fn row_counts(
     sheet: GridSearch,
     keys: &[u64],
@@ -66,16 +66,12 @@ fn row_counts(
     filter: Filter,
     r: Ready,
     i: usize,
-    near: bool,
 ) -> bool
     requires { ⌜ Known sheet (now keys) (now ids) (now xs) (now ys) (now zs) used place filter ⌝ }
-    requires { ⌜ i < used ⌝ ∗ ⌜ near ≡ containerNear sheet (asked (sheet .ndim) place) (getD (now keys) i 0) ⌝ }
+    requires { ⌜ i < used ⌝ ∗ ⌜ containerNear sheet (asked (sheet .ndim) place) (getD (now keys) i 0) ≡ true ⌝ }
     requires { ⌜ Made (sheet .ndim) place (sheet .radius ⊕ sheet .«tol_dist») (sheet .«tol_dist») r ⌝ }
     ensures { λ v. ⌜ v ≡ isOn sheet (asked (sheet .ndim) place) filter (rowAt (now (keys .entry)) (now (ids .entry)) (now (xs .entry)) (now (ys .entry)) (now (zs .entry)) i) ⌝ }
 {
-    if !near {
-        return false;
-    }
     let row = table::read_row(keys, ids, xs, ys, zs, i);
     near::point_counts(sheet, place, r, filter, row.at)
 }
@@ -96,7 +92,8 @@ pub(crate) struct Reached {
     pub(crate) near: bool,
 }
 
-// Goes on over the rows, and puts those that count behind the marked ones, up to the last row or as long as there is room.
+// Goes on over the rows, and puts those that count behind the marked ones, up to the last row, or to one that counts and has
+// no room. Where there is room, no branch depends on whether a row counts.
 fn gather(
     sheet: GridSearch,
     keys: &[u64],
@@ -120,8 +117,8 @@ fn gather(
     let mut n = from.marked;
     let mut near = from.near;
     let mut i = from.row;
-    while (i < used) & (n < marks.len()) {
-        near = near_now(
+    while i < used {
+        let now = near_now(
             sheet,
             keys,
             ids,
@@ -135,24 +132,27 @@ fn gather(
             i,
             near,
         );
+        if !now {
+            near = now;
+            i += 1;
+            continue;
+        }
+        let counts = row_counts(sheet, keys, ids, xs, ys, zs, used, place, filter, r, i);
+        if marks.len() <= n {
+            if counts {
+                return Reached {
+                    row: i,
+                    marked: n,
+                    near,
+                };
+            }
+            near = now;
+            i += 1;
+            continue;
+        }
         marks[n] = i as u16;
-        n = advanced(
-            n,
-            row_counts(
-                sheet,
-                keys,
-                ids,
-                xs,
-                ys,
-                zs,
-                used,
-                place,
-                filter,
-                r,
-                i,
-                near,
-            ),
-        );
+        n = advanced(n, counts);
+        near = now;
         i += 1;
     }
     Reached {

@@ -1,12 +1,14 @@
 -- `listing::walk::gather` meets its contract. Assumes nothing.
 use Prim.Native.Nat.{ℕ, _-_}
 use native.Mathlib.Omega.{arith}
-use mathlib.Core.Path.{_≡_, refl, _∙_}
+use mathlib.Core.Path.{_≡_, refl, sym, _∙_}
 use lib.ListN.{length, length-set}
 use borrow.Author.Needs.{needs}
-use borrow.Author.Tests.{ltb-false, lt-ltb}
+use borrow.Author.Tests.{not-true, not-false}
+use Rattle.table.specs.Rows.{rowAt}
+use Rattle.listing.specs.Place.{asked}
 use Rattle.listing.specs.Posts.{Walked}
-use Rattle.listing.proofs.Walks.{goes-on, walked-next}
+use Rattle.listing.proofs.Walks.{row-far, walked-passed, walked-next}
 use Rattle.listing.proofs.walk.gather.Statement.{statement}
 use Rattle.listing.proofs.walk.gather.Tie as tie
 
@@ -20,42 +22,71 @@ loop-holds : tie.Need-loop-holds Inv-loop μ-loop
 loop-holds c = (refl, c .before .before .before .before .before .before .pre .1 .1)
 
 near-now-requires : tie.Need-near-now-requires Inv-loop μ-loop
-near-now-requires c κs = (c .before .before .before .before .before .before .before .before .pre .0, ((goes-on (c .before .loop .i) (c .before .before .before .before .before .before .before .before .args .used) (c .before .loop .n) (length (c .before .loop .marks)) (c .loop-test .taken) .0, c .before .loop .inv .1 .remembered), c .before .before .before .before .before .before .before .before .pre .1 .0))
-
-cast-marks : tie.Need-cast-marks Inv-loop μ-loop
-cast-marks c = omega (arith, goes-on (c .before .before .loop .i) (c .before .before .before .before .before .before .before .before .before .args .used) (c .before .before .loop .n) (length (c .before .before .loop .marks)) (c .before .loop-test .taken) .0, c .before .before .before .before .before .before .before .before .before .pre .0 .small)
-
-mul-marks : tie.Need-mul-marks Inv-loop μ-loop
-mul-marks c = omega (arith, goes-on (c .before .before .loop .i) (c .before .before .before .before .before .before .before .before .before .args .used) (c .before .before .loop .n) (length (c .before .before .loop .marks)) (c .before .loop-test .taken) .1, c .before .before .loop .inv .0)
-
-slice-write-marks : tie.Need-slice-write-marks Inv-loop μ-loop
-slice-write-marks c = goes-on (c .before .before .loop .i) (c .before .before .before .before .before .before .before .before .before .args .used) (c .before .before .loop .n) (length (c .before .before .loop .marks)) (c .before .loop-test .taken) .1
-
-row-counts-requires : tie.Need-row-counts-requires Inv-loop μ-loop
-row-counts-requires c κs = (c .before .before .before .before .before .before .before .before .before .pre .0, (goes-on (c .before .before .loop .i) (c .before .before .before .before .before .before .before .before .before .args .used) (c .before .before .loop .n) (length (c .before .before .loop .marks)) (c .before .loop-test .taken) .0, (c .near-now .ensures, c .before .before .before .before .before .before .before .before .before .pre .1 .0)))
-
-advanced-requires : tie.Need-advanced-requires Inv-loop μ-loop
-advanced-requires c κs = omega (arith, c .before .before .before .loop .inv .1 .gathered .upto, c .before .before .before .loop .inv .1 .upto, c .before .before .before .before .before .before .before .before .before .before .pre .0 .small)
+near-now-requires c κs = (c .before .before .before .before .before .before .before .before .pre .0, ((c .loop-test .taken, c .before .loop .inv .1 .remembered), c .before .before .before .before .before .before .before .before .pre .1 .0))
 
 add-i : tie.Need-add-i Inv-loop μ-loop
-add-i c = omega (arith, goes-on (c .before .before .before .before .loop .i) (c .before .before .before .before .before .before .before .before .before .before .before .args .used) (c .before .before .before .before .loop .n) (length (c .before .before .before .before .loop .marks)) (c .before .before .before .loop-test .taken) .0, c .before .before .before .before .before .before .before .before .before .before .before .pre .0 .small)
+add-i c = omega (arith, c .before .before .loop-test .taken, c .before .before .before .before .before .before .before .before .before .before .pre .0 .small)
 
 loop-less : tie.Need-loop-less Inv-loop μ-loop
-loop-less c = omega (arith, goes-on (c .before .before .before .before .loop .i) (c .before .before .before .before .before .before .before .before .before .before .before .args .used) (c .before .before .before .before .loop .n) (length (c .before .before .before .before .loop .marks)) (c .before .before .before .loop-test .taken) .0)
+loop-less c = omega (arith, c .before .before .loop-test .taken)
 
 loop-again : tie.Need-loop-again Inv-loop μ-loop
 loop-again c =
-    let a = (c .before .before .before .before .before .before .before .before .before .before .before) .args in
-    let w = (c .before .before .before .before) .loop in (
-      length-set (w .marks) (w .n) (w .i) ∙ w .inv .0,
-      walked-next (a .sheet) (a .place) (a .filter) (a .keys .now) (a .ids .now) (a .xs .now) (a .ys .now) (a .zs .now) (c .before .before .near-now .result) (c .before .row-counts .result) (c .advanced .result) (w .inv .1) (goes-on (c .before .before .before .before .loop .i) (c .before .before .before .before .before .before .before .before .before .before .before .args .used) (c .before .before .before .before .loop .n) (length (c .before .before .before .before .loop .marks)) (c .before .before .before .loop-test .taken) .0) (goes-on (c .before .before .before .before .loop .i) (c .before .before .before .before .before .before .before .before .before .before .before .args .used) (c .before .before .before .before .loop .n) (length (c .before .before .before .before .loop .marks)) (c .before .before .before .loop-test .taken) .1) (c .before .before .near-now .ensures) (c .before .row-counts .ensures) (c .advanced .ensures),
-    )
+    let a = c .before .before .before .before .before .before .before .before .before .before in
+    let w = c .before .before .before .loop in
+    let far = row-far (a .args .sheet) (asked (a .args .sheet .ndim) (a .args .place)) (a .args .filter) (rowAt (a .args .keys .now) (a .args .ids .now) (a .args .xs .now) (a .args .ys .now) (a .args .zs .now) (w .i)) (sym (c .before .near-now .ensures) ∙ not-true _ (c .if1 .taken)) in
+    (w .inv .0, walked-passed (a .args .sheet) (a .args .place) (a .args .filter) (a .args .keys .now) (a .args .ids .now) (a .args .xs .now) (a .args .ys .now) (a .args .zs .now) (c .before .near-now .result) (w .inv .1) (c .before .before .loop-test .taken) (c .before .near-now .ensures) far)
+
+row-counts-requires : tie.Need-row-counts-requires Inv-loop μ-loop
+row-counts-requires c κs = (c .before .before .before .before .before .before .before .before .before .before .pre .0, (c .before .before .loop-test .taken, (sym (c .before .near-now .ensures) ∙ not-false _ (c .if1 .left), c .before .before .before .before .before .before .before .before .before .before .pre .1 .0)))
 
 same-length : tie.Need-same-length Inv-loop μ-loop
 same-length c = search needs
 
 returns : tie.Need-returns Inv-loop μ-loop
-returns c = (c .before .loop .inv .1, λ h. ltb-false _ _ (rw (lt-ltb _ _ h) at (c .loop-test .left)))
+returns c = (c .before .before .before .before .before .before .loop .inv .1, λ h. c .before .if2 .taken)
+
+add-i-2 : tie.Need-add-i-2 Inv-loop μ-loop
+add-i-2 c = omega (arith, c .before .before .before .before .before .loop-test .taken, c .before .before .before .before .before .before .before .before .before .before .before .before .before .pre .0 .small)
+
+loop-less-2 : tie.Need-loop-less-2 Inv-loop μ-loop
+loop-less-2 c = omega (arith, c .before .before .before .before .before .loop-test .taken)
+
+loop-again-2 : tie.Need-loop-again-2 Inv-loop μ-loop
+loop-again-2 c =
+    let a = c .before .before .before .before .before .before .before .before .before .before .before .before .before in
+    let w = c .before .before .before .before .before .before .loop in
+    (w .inv .0, walked-passed (a .args .sheet) (a .args .place) (a .args .filter) (a .args .keys .now) (a .args .ids .now) (a .args .xs .now) (a .args .ys .now) (a .args .zs .now) (c .before .before .before .before .near-now .result) (w .inv .1) (c .before .before .before .before .before .loop-test .taken) (c .before .before .before .before .near-now .ensures) (sym (c .before .before .row-counts .ensures) ∙ c .if3 .left))
+
+cast-marks : tie.Need-cast-marks Inv-loop μ-loop
+cast-marks c = omega (arith, c .before .before .before .before .loop-test .taken, c .before .before .before .before .before .before .before .before .before .before .before .before .pre .0 .small)
+
+mul-marks : tie.Need-mul-marks Inv-loop μ-loop
+mul-marks c = search needs
+
+slice-write-marks : tie.Need-slice-write-marks Inv-loop μ-loop
+slice-write-marks c = search needs
+
+advanced-requires : tie.Need-advanced-requires Inv-loop μ-loop
+advanced-requires c κs = omega (arith, c .before .before .before .before .before .loop .inv .1 .gathered .upto, c .before .before .before .before .before .loop .inv .1 .upto, c .before .before .before .before .before .before .before .before .before .before .before .before .pre .0 .small)
+
+add-i-3 : tie.Need-add-i-3 Inv-loop μ-loop
+add-i-3 c = omega (arith, c .before .before .before .before .before .loop-test .taken, c .before .before .before .before .before .before .before .before .before .before .before .before .before .pre .0 .small)
+
+loop-less-3 : tie.Need-loop-less-3 Inv-loop μ-loop
+loop-less-3 c = omega (arith, c .before .before .before .before .before .loop-test .taken)
+
+loop-again-3 : tie.Need-loop-again-3 Inv-loop μ-loop
+loop-again-3 c =
+    let a = c .before .before .before .before .before .before .before .before .before .before .before .before .before in
+    let w = c .before .before .before .before .before .before .loop in
+    (length-set (w .marks) (w .n) (w .i) ∙ w .inv .0, walked-next (a .args .sheet) (a .args .place) (a .args .filter) (a .args .keys .now) (a .args .ids .now) (a .args .xs .now) (a .args .ys .now) (a .args .zs .now) (c .before .before .before .before .near-now .result) (w .inv .1) (c .before .before .before .before .before .loop-test .taken) (c .before .before .before .before .near-now .ensures) (c .before .before .row-counts .result) (c .advanced .result) (c .before .before .row-counts .ensures) (c .advanced .ensures) (omega (arith, c .before .if2 .left)))
+
+same-length-2 : tie.Need-same-length-2 Inv-loop μ-loop
+same-length-2 c = search needs
+
+returns-2 : tie.Need-returns-2 Inv-loop μ-loop
+returns-2 c = (c .before .loop .inv .1, λ h. absurd (omega (arith, c .loop-test .left)))
 
 pub gather-spec : {M : Type 1} → statement M
 gather-spec =
@@ -65,13 +96,21 @@ gather-spec =
     μ-loop
     loop-holds
     near-now-requires
-    cast-marks
-    mul-marks
-    slice-write-marks
-    row-counts-requires
-    advanced-requires
     add-i
     loop-less
     loop-again
+    row-counts-requires
     same-length
-    returns)
+    returns
+    add-i-2
+    loop-less-2
+    loop-again-2
+    cast-marks
+    mul-marks
+    slice-write-marks
+    advanced-requires
+    add-i-3
+    loop-less-3
+    loop-again-3
+    same-length-2
+    returns-2)
