@@ -50,6 +50,10 @@ unfolding idsOf keep distinct
 ids-distinct p [] = refl
 ids-distinct p (r ∷ rows) = by-test (p r) (λ e. rw e (ap (enter (idIn r)) (ids-distinct p rows))) (λ e. rw e (ids-distinct p rows))
 
+-- the place left, where the next one is past the end
+pub last-place : (b : Bool) (n m room : ℕ) → m ≡ cond b (n + 1) n → n < room → m ≡ room → room ≡ n + 1
+last-place b n m room more h e = by-test b (λ q. let c : m ≡ n + 1 = rw q at more in omega (arith, c, e)) (λ q. let c : m ≡ n = rw q at more in absurd (omega (arith, c, e, h)))
+
 remembered-next : (s : GridSearch) (p : Place) (keys : List ℕ) (i : ℕ) (near : Bool) → near ≡ containerNear s (asked (s .ndim) p) (getD keys i 0) → Remembered s p keys (i + 1) near
 remembered-next s p keys i near e h = let q : i + 1 - 1 ≡ i = omega arith in rw q e
 
@@ -126,43 +130,49 @@ module _ (s : GridSearch) (p : Place) (f : Filter) (keys ids : List ℕ) (xs ys 
   abbrev at : ℕ → ℕ → Bool → Reached
   at i n near = record { row = i; marked = n; near = near }
 
-  pub walked-none : (used : ℕ) (marks : List ℕ) → Walked s p f keys ids xs ys zs used (at 0 0 false) marks
-  walked-none used marks = record { upto = omega arith; inside = omega arith; remembered = λ h. absurd (omega arith); gathered = gathered-none marks }
+  pub walked-none : (used : ℕ) (marks : List ℕ) → 0 < length marks → Walked s p f keys ids xs ys zs used (at 0 0 false) marks
+  walked-none used marks h = record { upto = omega arith; inside = h; remembered = λ k. absurd (omega arith); gathered = gathered-none marks }
 
   module _ {used i n : ℕ} {near : Bool} {marks : List ℕ} (now : Bool) (w : Walked s p f keys ids xs ys zs used (at i n near) marks) (h : i < used)
       (e : now ≡ containerNear s (asked (s .ndim) p) (getD keys i 0)) where
+    -- a row of a far container
     pub walked-passed : on (row i) ≡ false → Walked s p f keys ids xs ys zs used (at (i + 1) n now) marks
     walked-passed c = record { upto = omega (arith, h); inside = w .inside; remembered = remembered-next s p keys i now e; gathered = gathered-passed (w .gathered) c }
 
-    pub walked-next : (b : Bool) (m : ℕ) → b ≡ on (row i) → m ≡ cond b (n + 1) n → n < length marks → Walked s p f keys ids xs ys zs used (at (i + 1) m now) (set marks n i)
+    -- a row of a near one
+    pub walked-next : (b : Bool) (m : ℕ) → b ≡ on (row i) → m ≡ cond b (n + 1) n → (m ≡ length (set marks n i) → ⊥) → Walked s p f keys ids xs ys zs used (at (i + 1) m now) (set marks n i)
     walked-next b m k more room =
         by-test b
         (λ q. let c : m ≡ n + 1 = rw q at more in
-        subst (λ (v : ℕ). Walked s p f keys ids xs ys zs used (at (i + 1) v now) (set marks n i)) (sym c) (record {
+        record {
           upto = omega (arith, h);
-          inside = omega (arith, length-set marks n i, room);
+          inside = omega (arith, length-set marks n i, w .inside, room, c);
           remembered = remembered-next s p keys i now e;
-          gathered = gathered-marked (w .gathered) room (sym k ∙ q);
-        }))
+          gathered = subst (λ (v : ℕ). Gathered s p f keys ids xs ys zs (i + 1) v (set marks n i)) (sym c) (gathered-marked (w .gathered) (w .inside) (sym k ∙ q));
+        })
         (λ q. let c : m ≡ n = rw q at more in
-        subst (λ (v : ℕ). Walked s p f keys ids xs ys zs used (at (i + 1) v now) (set marks n i)) (sym c) (record {
+        record {
           upto = omega (arith, h);
-          inside = omega (arith, length-set marks n i, room);
+          inside = omega (arith, length-set marks n i, w .inside, c);
           remembered = remembered-next s p keys i now e;
-          gathered = gathered-passed (gathered-behind i (w .gathered)) (sym k ∙ q);
-        }))
+          gathered = subst (λ (v : ℕ). Gathered s p f keys ids xs ys zs (i + 1) v (set marks n i)) (sym c) (gathered-passed (gathered-behind i (w .gathered)) (sym k ∙ q));
+        })
 
-  pub walked-copied : {used : ℕ} {r : Reached} {few : List ℕ} (more : List ℕ) {after : List ℕ} → after ≡ over (take (r .marked) few) more → Walked s p f keys ids xs ys zs used r few → Walked s p f keys ids xs ys zs used r after
-  unfolding over
-  walked-copied {used} {r} {few} more e w = subst (Walked s p f keys ids xs ys zs used r) (sym e) (record {
+  -- a row that is given up again, since no place would be left
+  pub walked-back : {used i n : ℕ} {near : Bool} {marks : List ℕ} → Walked s p f keys ids xs ys zs used (at i n near) marks → Walked s p f keys ids xs ys zs used (at i n near) (set marks n i)
+  walked-back {used} {i} {n} {near} {marks} w = record { upto = w .upto; inside = omega (arith, length-set marks n i, w .inside); remembered = w .remembered; gathered = gathered-behind i (w .gathered) }
+
+  pub walked-copied : {used : ℕ} {r : Reached} {few : List ℕ} (more : List ℕ) {after : List ℕ} → after ≡ over (take (r .marked) few) more → r .marked < length after → Walked s p f keys ids xs ys zs used r few
+      → Walked s p f keys ids xs ys zs used r after
+  walked-copied {used} {r} {few} more {after} e h w = record {
     upto = w .upto;
-    inside = omega (arith, length-append (take (r .marked) few) (drop (length (take (r .marked) few)) more), length-take-le (r .marked) few (w .inside));
+    inside = h;
     remembered = w .remembered;
-    gathered = gathered-copied more (w .inside) (w .gathered);
-  })
+    gathered = subst (Gathered s p f keys ids xs ys zs (r .row) (r .marked)) (sym e) (gathered-copied more (omega (arith, w .inside)) (w .gathered));
+  }
 
-  pub walked-below : {used : ℕ} {r : Reached} {marks : List ℕ} → Walked s p f keys ids xs ys zs used r marks → used ≤ length ids → Below (length ids) (r .marked) marks
-  walked-below w h j k = omega (arith, w .gathered .below j k, w .upto)
+  pub walked-below : {used : ℕ} {r : Reached} {marks : List ℕ} → Walked s p f keys ids xs ys zs used r marks → used ≤ length ids → (r .marked ≤ length marks) × Below (length ids) (r .marked) marks
+  walked-below w h = (omega (arith, w .inside), λ j k. omega (arith, w .gathered .below j k, w .upto))
 
   -- where the last row was reached, the ids of the marks are those of the listing
   pub walked-all : {used : ℕ} {r : Reached} {marks list after : List ℕ} {a : Listed} → Walked s p f keys ids xs ys zs used r marks → used ≤ r .row

@@ -41,7 +41,7 @@ askedOf p a b v =
     (cond (eqb p 4) (plane 0 v)
     (cond (eqb p 5) (plane 1 v) unknown)))))
 
--- the place that the code makes of it, read back on so many axes
+-- the place of one value, whose positions are read on so many axes
 unfoldable pub asked : ℕ → Place → Asked
 asked n (place.Line a b) = line (coords n a) (coords n b)
 asked n (place.Circle a r) = circle (coords n a) r

@@ -47,10 +47,10 @@ pub record Gathered (s : GridSearch) (p : Place) (f : Filter) (keys ids : List �
   pub below : Below i n marks
   pub ids-are : map (within ids) (take n marks) ≡ map idIn (keep (isOn s (asked (s .ndim) p) f) (rowsOf keys ids xs ys zs i))
 
--- a walk came to a row, and has marked the rows before it that count
+-- a walk came to a row, and has marked the rows before it that count; there is a place for one more
 pub record Walked (s : GridSearch) (p : Place) (f : Filter) (keys ids : List ℕ) (xs ys zs : List Float) (used : ℕ) (r : Reached) (marks : List ℕ) : Type 0 where
   pub upto : r .row ≤ used
-  pub inside : r .marked ≤ length marks
+  pub inside : r .marked < length marks
   pub remembered : Remembered s p keys (r .row) (r .near)
   pub gathered : Gathered s p f keys ids xs ys zs (r .row) (r .marked) marks
 

@@ -288,9 +288,5 @@ pub(crate) fn point_counts(
     let ndim = sheet.ndim;
     let line = r.line;
     let w = r.point;
-    if point_lies(ndim, place, line, w, x) {
-        keeps(ndim, filter, x)
-    } else {
-        false
-    }
+    point_lies(ndim, place, line, w, x) & keeps(ndim, filter, x)
 }

@@ -92,8 +92,9 @@ pub(crate) struct Reached {
     pub(crate) near: bool,
 }
 
-// Goes on over the rows, and puts those that count behind the marked ones, up to the last row, or to one that counts and has
-// no room. Where there is room, no branch depends on whether a row counts.
+// Goes on over the rows, and puts those that count behind the marked ones: up to the last row, or to one that counts when a
+// single place is left. Each row of a near container is written there, and stays where it counts, so that no branch depends
+// on that.
 fn gather(
     sheet: GridSearch,
     keys: &[u64],
@@ -112,7 +113,7 @@ fn gather(
     requires { ⌜ Made (sheet .ndim) place (sheet .radius ⊕ sheet .«tol_dist») (sheet .«tol_dist») r ⌝ }
     requires { ⌜ Walked sheet place filter (now keys) (now ids) (now xs) (now ys) (now zs) used from (now marks) ⌝ }
     ensures { λ to. ⌜ Walked sheet place filter (now (keys .entry)) (now (ids .entry)) (now (xs .entry)) (now (ys .entry)) (now (zs .entry)) used to (now (marks .exit)) ⌝ }
-    ensures { λ to. ⌜ (to .row < used → length (now (marks .exit)) ≤ to .marked) ⌝ }
+    ensures { λ to. ⌜ (to .row < used → length (now (marks .exit)) ≡ to .marked + 1) ⌝ }
 {
     let mut n = from.marked;
     let mut near = from.near;
@@ -138,20 +139,16 @@ fn gather(
             continue;
         }
         let counts = row_counts(sheet, keys, ids, xs, ys, zs, used, place, filter, r, i);
-        if marks.len() <= n {
-            if counts {
-                return Reached {
-                    row: i,
-                    marked: n,
-                    near,
-                };
-            }
-            near = now;
-            i += 1;
-            continue;
-        }
         marks[n] = i as u16;
-        n = advanced(n, counts);
+        let more = advanced(n, counts);
+        if more == marks.len() {
+            return Reached {
+                row: i,
+                marked: n,
+                near,
+            };
+        }
+        n = more;
         near = now;
         i += 1;
     }
@@ -229,7 +226,7 @@ fn list_many(
     requires { ⌜ Walked sheet place filter (now keys) (now ids) (now xs) (now ys) (now zs) used from (now few) ⌝ }
     ensures { λ r. ⌜ Out (idsOf (isOn sheet (asked (sheet .ndim) place) filter) (rowsOf (now (keys .entry)) (now (ids .entry)) (now (xs .entry)) (now (ys .entry)) (now (zs .entry)) used)) (now (list .entry)) r (now (list .exit)) ⌝ }
 {
-    let mut marks = [0u16; 65536];
+    let mut marks = [0u16; 65537];
     copy_marks(few, from.marked, &mut marks);
     let to = gather(
         sheet,
@@ -287,7 +284,7 @@ pub(crate) fn list_on(
         marked: 0,
         near: false,
     };
-    let mut few = [0u16; 1024];
+    let mut few = [0u16; 1025];
     let to = gather(
         sheet,
         keys,

@@ -1,5 +1,6 @@
 -- `listing::near::point_counts` meets its contract. Assumes nothing.
-use mathlib.Core.Path.{_≡_, ap, _∙_}
+use mathlib.Core.Bool.{Bool, _&&_}
+use mathlib.Core.Path.{_≡_, ap, ap₂, _∙_}
 use lib.Ieee.{Float, neg}
 use Rattle.geometry.specs.Position.{coords}
 use Rattle.listing.specs.Place.{asked, placeDistance, pointNear}
@@ -20,19 +21,6 @@ keeps-requires c κs = search needs
 returns : tie.Need-returns
 unfolding pointNear
 returns c =
-    let a = c .before .before .before .before .before in
-    let m = a .pre .1 .1 .1 in
-    let d = placeDistance (asked (a .args .sheet .ndim) (a .args .place)) (coords (a .args .sheet .ndim) (a .args .x)) in
-    let n : c .before .before .point-lies .result ≡ pointNear (a .args .sheet) (asked (a .args .sheet .ndim) (a .args .place)) (coords (a .args .sheet .ndim) (a .args .x)) =
-    c .before .before .point-lies .ensures
-    ∙ ap (λ (f : Float). lies f (a .args .r .point .to) d) (m .point-from)
-    ∙ ap (λ (t : Float). lies (neg (a .args .sheet .«tol_dist»)) t d) (m .point-to)
-    ∙ both-sides (a .args .sheet .«tol_dist») d in
-    rw (← n, c .before .if1 .taken) (c .keeps .ensures)
-
-returns-2 : tie.Need-returns-2
-unfolding pointNear
-returns-2 c =
     let a = c .before .before .before .before in
     let m = a .pre .1 .1 .1 in
     let d = placeDistance (asked (a .args .sheet .ndim) (a .args .place)) (coords (a .args .sheet .ndim) (a .args .x)) in
@@ -41,7 +29,7 @@ returns-2 c =
     ∙ ap (λ (f : Float). lies f (a .args .r .point .to) d) (m .point-from)
     ∙ ap (λ (t : Float). lies (neg (a .args .sheet .«tol_dist»)) t d) (m .point-to)
     ∙ both-sides (a .args .sheet .«tol_dist») d in
-    rw (← n, c .if1 .left)
+    ap₂ (λ (x y : Bool). x && y) n (c .keeps .ensures)
 
 pub point-counts-spec : {M : Type 1} → statement M
-point-counts-spec = tie.close (tie.spec point-lies-requires keeps-requires returns returns-2)
+point-counts-spec = tie.close (tie.spec point-lies-requires keeps-requires returns)

@@ -72,7 +72,7 @@ list-many-gather-requires : (t : ℕ) → list-many-lts.Need-gather-requires (
 ) (list-many-at t) list-many.Post
 list-many-gather-requires t c κs =
     let a = c .before .before .before .before .before .before .before .before .before .before .before in
-    (a .pre .1 .0, (a .pre .1 .1 .0, walked-copied (a .args .sheet) (a .args .place) (a .args .filter) (a .args .keys .now) (a .args .ids .now) (a .args .xs .now) (a .args .ys .now) (a .args .zs .now) _ (c .before .before .copy-marks .ensures) (a .pre .1 .1 .1)))
+    (a .pre .1 .0, (a .pre .1 .1 .0, walked-copied (a .args .sheet) (a .args .place) (a .args .filter) (a .args .keys .now) (a .args .ids .now) (a .args .xs .now) (a .args .ys .now) (a .args .zs .now) _ (c .before .before .copy-marks .ensures) (omega (arith, a .pre .1 .1 .1 .gathered .upto, a .pre .1 .1 .1 .upto, a .pre .1 .0 .small, c .before .before .copy-marks .kept .1 .1 .0)) (a .pre .1 .1 .1)))
 
 list-many-slice-aggregate-list-many : (t : ℕ) → list-many-lts.Need-slice-aggregate-list-many (
   copy-marks-reads.Asked,
@@ -150,7 +150,7 @@ list-many-list-marked-requires : (t : ℕ) → list-many-lts.Need-list-marked-re
 list-many-list-marked-requires t c κs =
     let a = c .before .before .before .before .before .before .before .before .before .before .before .before .before .before .before .before .before in
     let w = c .before .before .before .before .before .gather .ensures .0 in
-    (w .inside, walked-below (a .args .sheet) (a .args .place) (a .args .filter) (a .args .keys .now) (a .args .ids .now) (a .args .xs .now) (a .args .ys .now) (a .args .zs .now) w (a .pre .1 .0 .checked .in-ids))
+    walked-below (a .args .sheet) (a .args .place) (a .args .filter) (a .args .keys .now) (a .args .ids .now) (a .args .xs .now) (a .args .ys .now) (a .args .zs .now) w (a .pre .1 .0 .checked .in-ids)
 
 list-many-same-length-2 : (t : ℕ) → list-many-lts.Need-same-length-2 (
   copy-marks-reads.Asked,

@@ -8,7 +8,7 @@ use borrow.Author.Tests.{not-true, not-false}
 use Rattle.table.specs.Rows.{rowAt}
 use Rattle.listing.specs.Place.{asked}
 use Rattle.listing.specs.Posts.{Walked}
-use Rattle.listing.proofs.Walks.{row-far, walked-passed, walked-next}
+use Rattle.listing.proofs.Walks.{row-far, walked-passed, walked-next, walked-back, last-place}
 use Rattle.listing.proofs.walk.gather.Statement.{statement}
 use Rattle.listing.proofs.walk.gather.Tie as tie
 
@@ -40,11 +40,26 @@ loop-again c =
 row-counts-requires : tie.Need-row-counts-requires Inv-loop μ-loop
 row-counts-requires c κs = (c .before .before .before .before .before .before .before .before .before .before .pre .0, (c .before .before .loop-test .taken, (sym (c .before .near-now .ensures) ∙ not-false _ (c .if1 .left), c .before .before .before .before .before .before .before .before .before .before .pre .1 .0)))
 
+cast-marks : tie.Need-cast-marks Inv-loop μ-loop
+cast-marks c = omega (arith, c .before .before .before .loop-test .taken, c .before .before .before .before .before .before .before .before .before .before .before .pre .0 .small)
+
+mul-marks : tie.Need-mul-marks Inv-loop μ-loop
+mul-marks c = omega (arith, c .before .before .before .before .loop .inv .1 .inside, c .before .before .before .before .loop .inv .0)
+
+slice-write-marks : tie.Need-slice-write-marks Inv-loop μ-loop
+slice-write-marks c = c .before .before .before .before .loop .inv .1 .inside
+
+advanced-requires : tie.Need-advanced-requires Inv-loop μ-loop
+advanced-requires c κs = omega (arith, c .before .before .before .before .loop .inv .1 .gathered .upto, c .before .before .before .before .loop .inv .1 .upto, c .before .before .before .before .before .before .before .before .before .before .before .pre .0 .small)
+
 same-length : tie.Need-same-length Inv-loop μ-loop
 same-length c = search needs
 
 returns : tie.Need-returns Inv-loop μ-loop
-returns c = (c .before .before .before .before .before .before .loop .inv .1, λ h. c .before .if2 .taken)
+returns c =
+    let a = c .before .before .before .before .before .before .before .before .before .before .before .before .before in
+    let w = c .before .before .before .before .before .before .loop in
+    (walked-back (a .args .sheet) (a .args .place) (a .args .filter) (a .args .keys .now) (a .args .ids .now) (a .args .xs .now) (a .args .ys .now) (a .args .zs .now) (w .inv .1), λ h. last-place (c .before .before .row-counts .result) (w .n) (c .before .advanced .result) _ (c .before .advanced .ensures) (omega (arith, length-set (w .marks) (w .n) (w .i), w .inv .1 .inside)) (c .if2 .taken))
 
 add-i-2 : tie.Need-add-i-2 Inv-loop μ-loop
 add-i-2 c = omega (arith, c .before .before .before .before .before .loop-test .taken, c .before .before .before .before .before .before .before .before .before .before .before .before .before .pre .0 .small)
@@ -56,31 +71,7 @@ loop-again-2 : tie.Need-loop-again-2 Inv-loop μ-loop
 loop-again-2 c =
     let a = c .before .before .before .before .before .before .before .before .before .before .before .before .before in
     let w = c .before .before .before .before .before .before .loop in
-    (w .inv .0, walked-passed (a .args .sheet) (a .args .place) (a .args .filter) (a .args .keys .now) (a .args .ids .now) (a .args .xs .now) (a .args .ys .now) (a .args .zs .now) (c .before .before .before .before .near-now .result) (w .inv .1) (c .before .before .before .before .before .loop-test .taken) (c .before .before .before .before .near-now .ensures) (sym (c .before .before .row-counts .ensures) ∙ c .if3 .left))
-
-cast-marks : tie.Need-cast-marks Inv-loop μ-loop
-cast-marks c = omega (arith, c .before .before .before .before .loop-test .taken, c .before .before .before .before .before .before .before .before .before .before .before .before .pre .0 .small)
-
-mul-marks : tie.Need-mul-marks Inv-loop μ-loop
-mul-marks c = search needs
-
-slice-write-marks : tie.Need-slice-write-marks Inv-loop μ-loop
-slice-write-marks c = search needs
-
-advanced-requires : tie.Need-advanced-requires Inv-loop μ-loop
-advanced-requires c κs = omega (arith, c .before .before .before .before .before .loop .inv .1 .gathered .upto, c .before .before .before .before .before .loop .inv .1 .upto, c .before .before .before .before .before .before .before .before .before .before .before .before .pre .0 .small)
-
-add-i-3 : tie.Need-add-i-3 Inv-loop μ-loop
-add-i-3 c = omega (arith, c .before .before .before .before .before .loop-test .taken, c .before .before .before .before .before .before .before .before .before .before .before .before .before .pre .0 .small)
-
-loop-less-3 : tie.Need-loop-less-3 Inv-loop μ-loop
-loop-less-3 c = omega (arith, c .before .before .before .before .before .loop-test .taken)
-
-loop-again-3 : tie.Need-loop-again-3 Inv-loop μ-loop
-loop-again-3 c =
-    let a = c .before .before .before .before .before .before .before .before .before .before .before .before .before in
-    let w = c .before .before .before .before .before .before .loop in
-    (length-set (w .marks) (w .n) (w .i) ∙ w .inv .0, walked-next (a .args .sheet) (a .args .place) (a .args .filter) (a .args .keys .now) (a .args .ids .now) (a .args .xs .now) (a .args .ys .now) (a .args .zs .now) (c .before .before .before .before .near-now .result) (w .inv .1) (c .before .before .before .before .before .loop-test .taken) (c .before .before .before .before .near-now .ensures) (c .before .before .row-counts .result) (c .advanced .result) (c .before .before .row-counts .ensures) (c .advanced .ensures) (omega (arith, c .before .if2 .left)))
+    (length-set (w .marks) (w .n) (w .i) ∙ w .inv .0, walked-next (a .args .sheet) (a .args .place) (a .args .filter) (a .args .keys .now) (a .args .ids .now) (a .args .xs .now) (a .args .ys .now) (a .args .zs .now) (c .before .before .before .before .near-now .result) (w .inv .1) (c .before .before .before .before .before .loop-test .taken) (c .before .before .before .before .near-now .ensures) (c .before .before .row-counts .result) (c .before .advanced .result) (c .before .before .row-counts .ensures) (c .before .advanced .ensures) (c .if2 .left))
 
 same-length-2 : tie.Need-same-length-2 Inv-loop μ-loop
 same-length-2 c = search needs
@@ -100,17 +91,14 @@ gather-spec =
     loop-less
     loop-again
     row-counts-requires
+    cast-marks
+    mul-marks
+    slice-write-marks
+    advanced-requires
     same-length
     returns
     add-i-2
     loop-less-2
     loop-again-2
-    cast-marks
-    mul-marks
-    slice-write-marks
-    advanced-requires
-    add-i-3
-    loop-less-3
-    loop-again-3
     same-length-2
     returns-2)

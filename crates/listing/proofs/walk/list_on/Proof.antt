@@ -1,4 +1,5 @@
 -- `listing::walk::list_on` meets its contract. Assumes nothing.
+use native.Mathlib.Omega.{arith}
 use borrow.Author.Needs.{needs}
 use Rattle.listing.proofs.Walks.{walked-none, walked-below, walked-all}
 use Rattle.listing.proofs.walk.list_on.Statement.{statement}
@@ -13,7 +14,7 @@ slice-aggregate-gather c = search needs
 gather-requires : tie.Need-gather-requires
 gather-requires c κs =
     let a = c .before .before .before .before .before .before .before .before in
-    (a .pre, (c .before .made-ready .ensures, walked-none (a .args .sheet) (a .args .place) (a .args .filter) (a .args .keys .now) (a .args .ids .now) (a .args .xs .now) (a .args .ys .now) (a .args .zs .now) (a .args .used) _))
+    (a .pre, (c .before .made-ready .ensures, walked-none (a .args .sheet) (a .args .place) (a .args .filter) (a .args .keys .now) (a .args .ids .now) (a .args .xs .now) (a .args .ys .now) (a .args .zs .now) (a .args .used) _ (omega arith)))
 
 slice-aggregate-list-many : tie.Need-slice-aggregate-list-many
 slice-aggregate-list-many c = search needs
@@ -36,7 +37,7 @@ list-marked-requires : tie.Need-list-marked-requires
 list-marked-requires c κs =
     let a = c .before .before .before .before .before .before .before .before .before .before .before .before .before .before in
     let w = c .before .before .before .before .before .gather .ensures .0 in
-    (w .inside, walked-below (a .args .sheet) (a .args .place) (a .args .filter) (a .args .keys .now) (a .args .ids .now) (a .args .xs .now) (a .args .ys .now) (a .args .zs .now) w (a .pre .checked .in-ids))
+    walked-below (a .args .sheet) (a .args .place) (a .args .filter) (a .args .keys .now) (a .args .ids .now) (a .args .xs .now) (a .args .ys .now) (a .args .zs .now) w (a .pre .checked .in-ids)
 
 same-length-2 : tie.Need-same-length-2
 same-length-2 c = search needs
