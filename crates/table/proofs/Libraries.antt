@@ -3,20 +3,20 @@
 use Prim.Native.Nat.{ℕ, zero, suc, _≤_}
 use native.Mathlib.Nat.{not-suc-le-zero, le-of-suc-le-suc}
 use native.Mathlib.Omega.{arith}
-use mathlib.Core.Path.{_≡_, refl, sym, ap, _∙_, subst}
-use mathlib.Core.Bool.{Bool, true}
+use mathlib.Core.Path.{_≡_, refl, sym, ap, ap₂, _∙_, subst}
+use mathlib.Core.Bool.{Bool, true, _&&_}
 use mathlib.Core.List.{List, [], _∷_, _++_, map}
 use lib.Dec.{eqb}
 use lib.ListN.{length, take, drop, length-map, length-append, length-drop, take-append-drop}
 use lib.Seq.{drop-nil}
 use lib.Ieee.{Float, nan}
 use borrow.Author.Tests.{leb-true, eqb-true}
-use Rattle.basics.specs.Bools.{and-both}
+use Rattle.basics.specs.Bools.{both, and-both}
 use Rattle.basics.specs.Lists.{all, over}
 use Rattle.basics.specs.Laws.{length-tab, map-tab, tab-take}
 use Rattle.table.specs.declared.Row.{Row}
 use Rattle.table.specs.Rows.{slotOf, slotAt, slotsOf, keyIn, idIn, xIn, yIn, zIn}
-use Rattle.table.specs.Library.{Library, library, rowAt, rowsOf, table, write, lengths, space, level, fits, roomy, soundLayout}
+use Rattle.table.specs.Library.{Library, library, rowAt, rowsOf, table, write, lengths, Space, space, level, fits, roomy, soundLayout}
 use Rattle.table.specs.Posts.{Ordered, Long, Room, InOrder, eachOf}
 
 -- ---- the rows that the lists hold
@@ -81,17 +81,26 @@ unfolding level fits
 long [] n e f = tt
 long (m ∷ ms) n e f = let h = leb-true n m f in (h, level-long n m ms h e)
 
+-- the layout's part of 13, by what was lent and the used count
+pub layout-is : (l : Library) → soundLayout l ≡ (level (space l .rows) && fits (space l .rows) (l .used))
+unfolding soundLayout
+layout-is l = refl
+
 module _ (l : Library) (e : soundLayout l ≡ true) where
-  parts : (level (lengths l) ≡ true) × (fits (lengths l) (l .used) ≡ true)
-  unfolding soundLayout space
-  parts = and-both _ _ e
+  parts : (level (space l .rows) ≡ true) × (fits (space l .rows) (l .used) ≡ true)
+  parts = and-both (level (space l .rows)) (fits (space l .rows) (l .used)) (sym (layout-is l) ∙ e)
 
   pub room-used : Room l (l .used)
+  unfolding space
   room-used = long (lengths l) (l .used) (parts .0) (parts .1)
 
   pub room-for : (rows : List Row) → roomy (space l) rows ≡ true → Room l (length rows)
   unfolding roomy space
   room-for rows f = long (lengths l) (length rows) (parts .0) f
+
+  -- another library of the same space, whose rows have room
+  pub layout-kept : (m : Library) → space m ≡ space l → (rows : List Row) → m .used ≡ length rows → roomy (space l) rows ≡ true → soundLayout m ≡ true
+  layout-kept m z rows n f = layout-is m ∙ both (ap (λ (s : Space). level (s .rows)) z ∙ parts .0) (ap₂ (λ (s : Space) (k : ℕ). fits (s .rows) k) z n ∙ unfold roomy in f)
 
 -- ---- the front of a list written over
 
