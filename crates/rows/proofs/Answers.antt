@@ -14,20 +14,26 @@ use Rattle.basics.specs.Lists.{all, any}
 use Rattle.basics.specs.Refusals.{Test, refuse, fault, code, success, fault-stop, fault-right, code-none, code-some, unrefused}
 use Rattle.geometry.specs.declared.Position.{Position}
 use Rattle.geometry.specs.Position.{coords, positionOf, coordinate}
+use Rattle.geometry.specs.Axes.{coords-of}
+use Rattle.grid.specs.declared.ContainerKey.{ContainerKey}
+use Rattle.grid.specs.declared.Located.{Located}
+use Rattle.grid.specs.declared.Located.the-variants.{Key, Exceeds}
+use Rattle.grid.specs.Divisions.{counts}
+use Rattle.grid.specs.Containers.{located}
 use Rattle.grid_search.specs.declared.GridSearch.{GridSearch}
 use Rattle.table.specs.declared.Row.{Row}
 use Rattle.table.specs.Rows.{slotsOf, putIn}
 use Rattle.table.specs.Library.{Library, table, write, space, fits, roomy}
-use Rattle.table.specs.Posts.{CountAfter, Takes, Becomes}
+use Rattle.table.specs.Posts.{InOrder, CountAfter, Takes, Becomes}
 use Rattle.table.proofs.Libraries.{slots-table, write-used, room-for}
 use Rattle.rows.specs.Damage.{libraryTests}
-use Rattle.rows.specs.Insert.{outsideSheet, overshoots, points, rowsWith, positionTests, roomTests, insertTests, settle, insertion, Gives}
-use Rattle.rows.specs.Posts.{FoundTargets, Accepts, Judges}
+use Rattle.rows.specs.Insert.{outsideSheet, overshoots, containerOf, points, rowsWith, positionTests, roomTests, insertTests, settle, insertion, Gives}
+use Rattle.rows.specs.Posts.{Divided, FoundTargets, Accepts, Judges}
 use Rattle.rows.specs.declared.Inserted.the-variants.{Stored, Refused}
 use Rattle.rows.specs.declared.Judged.{Judged}
 use Rattle.rows.specs.declared.Judged.the-variants as judged
-use Rattle.rows.proofs.Check.{Whole, whole, numbered, divided, in-order}
-use Rattle.rows.proofs.Targets.{read-found, found-none, none-exceeds, found-rows}
+use Rattle.rows.proofs.Check.{whole, numbered, divided, in-order}
+use Rattle.rows.proofs.Targets.{located-key, located-not, found-none, none-exceeds, found-rows}
 use Rattle.rows.proofs.Kept.{accepted-library, accepted-room}
 
 -- ---- 2, 3, 11 and then 17
@@ -114,6 +120,33 @@ module _ (s : GridSearch) (l : Library) (x : List Float) where
           ∙ fault-stop (positionTests s x ps) ts n (position-some s x ps n (sym (fault-right (libraryTests s l) (positionTests s x []) g) ∙ f))
       go (some m) g = fault-stop (libraryTests s l) (positionTests s x ps ++ ts) m g ∙ sym (fault-stop (libraryTests s l) (positionTests s x []) m g) ∙ f
 
+-- what such a call knows when it looks for its position's container, the position being read into p
+module _ (s : GridSearch) (l : Library) (x : List Float) (k : Called s l x) where
+  pub called-sheet : Divided s
+  called-sheet = divided s (whole s l (k .library) .sheet)
+
+  pub called-order : InOrder l
+  called-order = in-order (whole s l (k .library))
+
+  module _ {p : Position} (e : p ≡ positionOf x) where
+    pub called-at : coords (s .ndim) p ≡ x
+    called-at = coords-of (s .ndim) x p (called-sheet .axes) (position-length s x (k .position)) e
+
+    pub called-inside : outsideSheet s (coords (s .ndim) p) ≡ false
+    called-inside = ap (outsideSheet s) called-at ∙ position-inside s x (k .position)
+
+    abbrev place : List Float → Located
+    place y = located (counts (s .ndim) (s .ndiv)) (s .«side_length») (coords (s .ndim) (s .xmin)) y
+
+    pub called-key : {key : ContainerKey} → place (coords (s .ndim) p) ≡ Key key → (overshoots s x ≡ false) × (containerOf s x ≡ key .0)
+    called-key g = located-key s x (sym (ap place called-at) ∙ g)
+
+    pub called-exceeds : place (coords (s .ndim) p) ≡ Exceeds → overshoots s x ≡ true
+    called-exceeds g = located-not s x (sym (ap place called-at) ∙ g)
+
+    called-found : {r : ℕ} {into : List ℕ} → FoundTargets s (coords (s .ndim) p) r into → FoundTargets s x r into
+    called-found {r} {into} f = subst (λ (y : List Float). FoundTargets s y r into) called-at f
+
 -- ---- insertion
 
 module _ (s : GridSearch) (l : Library) (i : ℕ) (x : List Float) where
@@ -156,14 +189,11 @@ module _ (s : GridSearch) (l : Library) (i : ℕ) (x : List Float) where
 -- ---- the rows that the code stores are the definition's
 
 module _ (s : GridSearch) (l : Library) (i : ℕ) (x : List Float) (p : Position) (e : p ≡ positionOf x) (k : Called s l x) {r : ℕ} {into : List ℕ} (f : FoundTargets s (coords (s .ndim) p) r into) where
-  w : Whole s l
-  w = whole s l (k .library)
-
   inside : outsideSheet s x ≡ false
   inside = position-inside s x (k .position)
 
   found : FoundTargets s x r into
-  found = read-found s x p (divided s (w .sheet) .axes) (position-length s x (k .position)) e f
+  found = called-found s l x k e f
 
   -- 17
   pub judged-exceeds : r ≡ 0 → fault (insertTests s l i x) ≡ some 17
@@ -174,7 +204,7 @@ module _ (s : GridSearch) (l : Library) (i : ℕ) (x : List Float) (p : Position
     some-found = omega arith
 
     rows-found : putIn i (positionOf x) (take r into) (table l) ≡ rowsWith s i x (table l)
-    rows-found = found-rows s x inside found some-found i (table l) (w .order)
+    rows-found = found-rows s x inside found some-found i (table l) (called-order s l x k .order)
 
     count-found : n ≡ length (rowsWith s i x (table l))
     count-found = c (positionOf x) (table l) (slots-table l) ∙ ap length rows-found

@@ -297,12 +297,3 @@ module _ (s : GridSearch) (x : List Float) (o : outsideSheet s x ≡ false) {r :
     pub found-rows : (i : ℕ) (rows : List Row) → sorted (map slotOf rows) ≡ true → putIn i (positionOf x) (take r l) rows ≡ rowsWith s i x rows
     unfolding rowsWith has
     found-rows i rows q = same-rows i (positionOf x) (take r l) (targets s x) rows q (λ k. ap (has k) (found-some .1) ∙ has-join k (targets s x) [])
-
--- ---- the position as the code has it
-
-module _ (s : GridSearch) (x : List Float) (p : Position) (d : dimension (s .ndim) ≡ true) (n : length x ≡ s .ndim) (e : p ≡ positionOf x) where
-  pub read-inside : outsideSheet s x ≡ false → outsideSheet s (coords (s .ndim) p) ≡ false
-  read-inside o = ap (outsideSheet s) (coords-of (s .ndim) x p d n e) ∙ o
-
-  pub read-found : {r : ℕ} {l : List ℕ} → FoundTargets s (coords (s .ndim) p) r l → FoundTargets s x r l
-  read-found {r} {l} f = subst (λ (y : List Float). FoundTargets s y r l) (coords-of (s .ndim) x p d n e) f

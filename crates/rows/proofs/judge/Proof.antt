@@ -5,9 +5,7 @@ use lib.Seq.{length-take-le}
 use borrow.Author.Needs.{needs}
 use native.Mathlib.Omega.{arith}
 use Rattle.table.proofs.Libraries.{ordered}
-use Rattle.rows.proofs.Check.{whole, divided, in-order}
-use Rattle.rows.proofs.Targets.{read-inside}
-use Rattle.rows.proofs.Answers.{position-inside, position-length, called, refused-first, judged-exceeds, judged-full, judged-into}
+use Rattle.rows.proofs.Answers.{called, called-sheet, called-order, called-inside, refused-first, judged-exceeds, judged-full, judged-into}
 use Rattle.rows.proofs.judge.Statement.{statement}
 use Rattle.rows.proofs.judge.Tie as tie
 
@@ -20,8 +18,7 @@ find-targets-requires c κs =
     let s = a .args .sheet in
     let x = a .args .x .now in
     let k = called s _ x (sym (c .before .before .if1 .left) ∙ c .before .before .before .call-fault .ensures) in
-    let d = divided s (whole s _ (k .library) .sheet) in
-    (d, (read-inside s x (c .new .result) (d .axes) (position-length s x (k .position)) (c .new .ensures) (position-inside s x (k .position)), a .pre))
+    (called-sheet s _ x k, (called-inside s _ x k (c .new .ensures), a .pre))
 
 returns-2 : tie.Need-returns-2
 returns-2 c =
@@ -37,7 +34,7 @@ rows-after-requires : tie.Need-rows-after-requires
 rows-after-requires c κs =
     let a = c .before .before .before .before .before .before .before .before .before .before .before .before .before .before .before .before in
     let k = called (a .args .sheet) _ (a .args .x .now) (sym (c .before .before .before .before .before .before .before .if1 .left) ∙ c .before .before .before .before .before .before .before .before .call-fault .ensures) in
-    ordered (in-order (whole (a .args .sheet) _ (k .library)))
+    ordered (called-order (a .args .sheet) _ (a .args .x .now) k)
 
 returns-3 : tie.Need-returns-3
 returns-3 c =
