@@ -76,9 +76,9 @@ unfoldable pub diagonal : ℕ → Float
 unfolding sqrtOf
 diagonal n = sqrtOf (ofNat n)
 
-unfoldable pub build : List Float → List Float → GivenU64 → GivenF64 → GivenF64 → GridSearch
+unfoldable pub sheetFrom : List Float → List Float → GivenU64 → GivenF64 → GivenF64 → GridSearch
 unfolding numberOf toleranceOf borderOf lowered raised sideOf coveredOf diagonal numDivisions
-build lo hi number tolerance border =
+sheetFrom lo hi number tolerance border =
     -- the divisions come from the corners before the border widens them
     let ns = numDivisions (numberOf number) lo hi in
     let xmin = lowered (borderOf border) lo in
@@ -109,14 +109,14 @@ outOfLimits lo hi tolerance border =
     || (lt (pow2 10) tolerance || (lt (pow2 10) border || (lt zeroF tolerance && lt tolerance (pow2⁻ 20))))
 
 -- 7: the high corner is above the low one on every axis
-unfoldable pub above : List Float → List Float → Bool
+unfoldable pub inOrder : List Float → List Float → Bool
 unfolding lt
-above (a ∷ los) (b ∷ his) = lt a b && above los his
-above [] his = true
-above (a ∷ los) [] = true
+inOrder (a ∷ los) (b ∷ his) = lt a b && inOrder los his
+inOrder [] his = true
+inOrder (a ∷ los) [] = true
 
 unfoldable pub sheetTests : List Float → List Float → GivenU64 → GivenF64 → GivenF64 → List Test
-unfolding outOfLimits above numberOf toleranceOf borderOf build lt le
+unfolding outOfLimits inOrder numberOf toleranceOf borderOf sheetFrom lt le
 sheetTests lo hi number tolerance border =
     refuse 1 (not (dimension (length lo)))
     ∷ refuse 2 (not (eqb (length hi) (length lo)))
@@ -124,15 +124,15 @@ sheetTests lo hi number tolerance border =
     ∷ refuse 4 (eqb (numberOf number) 0)
     ∷ refuse 5 (eqb (numberOf number) 1)
     ∷ refuse 6 (ltb 1024 (numberOf number))
-    ∷ refuse 7 (not (above lo hi))
+    ∷ refuse 7 (not (inOrder lo hi))
     ∷ refuse 8 (le (toleranceOf tolerance) zeroF)
     ∷ refuse 9 (lt (borderOf border) zeroF)
-    ∷ refuse 10 (le (build lo hi number tolerance border .«side_length») (pow2 1 ⊗ toleranceOf tolerance))
+    ∷ refuse 10 (le (sheetFrom lo hi number tolerance border .«side_length») (pow2 1 ⊗ toleranceOf tolerance))
     ∷ []
 
 unfoldable pub newSheet : List Float → List Float → GivenU64 → GivenF64 → GivenF64 → Answer GridSearch
-unfolding build fault sheetTests answer
-newSheet lo hi number tolerance border = answer (fault (sheetTests lo hi number tolerance border)) (build lo hi number tolerance border)
+unfolding sheetFrom fault sheetTests answer
+newSheet lo hi number tolerance border = answer (fault (sheetTests lo hi number tolerance border)) (sheetFrom lo hi number tolerance border)
 
 -- the answer's number or its sheet
 abbrev pub made : Made → Answer GridSearch
