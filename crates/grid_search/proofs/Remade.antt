@@ -12,7 +12,7 @@ use lib.Ieee.{Float, binary64, fits, lt}
 use lib.Ieee.Fits.{add-fits, sub-fits, mul-fits, div-fits}
 use borrow.Author.Tests.{eq-eqb}
 use Rattle.basics.proofs.Bools.{by-test, both, and-left, and-right, and-both}
-use Rattle.basics.specs.Lists.{all, zipWith}
+use Rattle.basics.specs.Lists.{all, zipWith, foldFrom}
 use Rattle.basics.specs.Refusals.{fault, success, answer}
 use Rattle.floats.specs.Rounded.{_⊖_, _⊗_, _⊘_, ofNat, zeroF, pow2}
 use Rattle.floats.specs.Tests.{finite, sameBits, maxOf, Binary64}
@@ -27,7 +27,7 @@ use Rattle.grid.specs.Divisions.{numDivisions}
 use Rattle.grid_search.specs.declared.GivenU64.{GivenU64}
 use Rattle.grid_search.specs.declared.GivenF64.{GivenF64}
 use Rattle.grid_search.specs.declared.GridSearch.{GridSearch}
-use Rattle.grid_search.specs.Sheet.{numberOf, toleranceOf, borderOf, sheetFrom, sheetTests, newSheet, samePosition, sameDivisions, sameSheet, sheetOk, lowered, raised, largestFrom, largest, sideOf, coveredOf, diagonal}
+use Rattle.grid_search.specs.Sheet.{numberOf, toleranceOf, borderOf, sheetFrom, sheetTests, newSheet, samePosition, sameDivisions, sameSheet, sheetOk, lowered, raised, largest, sideOf, coveredOf, diagonal}
 use Rattle.grid_search.proofs.Sizes.{sized-finite, coordinates-sized, finite-number}
 use Rattle.grid_search.proofs.Settings.{tests-passed, xminFrom, xmaxFrom, of-settings}
 use Rattle.grid_search.proofs.Good.{lowOf, highOf, rebuilt, remade, kept, same-fields, good}
@@ -98,7 +98,7 @@ unfolding largest fits
 held-largest [] h = tt
 held-largest (x ∷ xs) h = on x xs (h .0) (h .1)
   where
-    on : (x : Float) (xs : List Float) → Binary64 x → HeldList xs → Binary64 (largestFrom x xs)
+    on : (x : Float) (xs : List Float) → Binary64 x → HeldList xs → Binary64 (foldFrom maxOf x xs)
     on x [] h k = h
     on x (y ∷ xs) h k = on (maxOf x y) xs (held-max x y h (k .0)) (k .1)
 

@@ -9,7 +9,7 @@ use lib.Dec.{lit≤}
 use lib.Ieee.{Float, nan, inf, fin, lt, le, isNan, ofInt}
 use borrow.Author.Tests.{not-false}
 use Rattle.basics.proofs.Bools.{by-test, both, and-left, and-right, and-both, or-left, or-right, clash}
-use Rattle.basics.specs.Lists.{all, zipWith}
+use Rattle.basics.specs.Lists.{all, zipWith, foldFrom}
 use Rattle.floats.specs.Rounded.{_⊕_, _⊖_, _⊗_, _⊘_, ofNat, zeroF, pow2}
 use Rattle.floats.specs.Tests.{finite, maxOf}
 use Rattle.floats.proofs.Order.{lt-is-not-le, le-join}
@@ -18,7 +18,7 @@ use Rattle.geometry.specs.Position.{dimension, coordinate}
 use Rattle.geometry.proofs.Axes.{two-or-three}
 use Rattle.grid.specs.Divisions.{division}
 use Rattle.grid.proofs.Bounds.{first-of, rest-of}
-use Rattle.grid_search.specs.Sheet.{lowered, raised, largestFrom, largest, sideOf, coveredOf, diagonal, outOfLimits}
+use Rattle.grid_search.specs.Sheet.{lowered, raised, largest, sideOf, coveredOf, diagonal, outOfLimits}
 
 -- ---- lists whose entries are at most n in size
 abbrev pub AllUpto : ℕ → List Float → Type 0
@@ -78,8 +78,8 @@ sides-sized a N (d ∷ ds) (n ∷ ns) h k =
     let r = first-of n ns k in
     (div-upto a N d (ofNat n) (h .0) (nat-from1 n (r .least) (few (r .most))), sides-sized a N ds ns (h .1) (rest-of n ns k))
 
-largest-from : (n : ℕ) (x : Float) (xs : List Float) → Upto n x → AllUpto n xs → Upto n (largestFrom x xs)
-unfolding largestFrom
+largest-from : (n : ℕ) (x : Float) (xs : List Float) → Upto n x → AllUpto n xs → Upto n (foldFrom maxOf x xs)
+unfolding foldFrom
 largest-from n x [] h k = h
 largest-from n x (y ∷ xs) h k = largest-from n (maxOf x y) xs (max-upto n x y h (k .0)) (k .1)
 

@@ -6,13 +6,14 @@ use mathlib.Core.List.{List, [], _∷_, map}
 use lib.Dec.{ltb, eqb}
 use lib.ListN.{length}
 use lib.Ieee.{Float, binary64, round, lt, le}
-use Rattle.basics.specs.Lists.{all, zipWith}
+use Rattle.basics.specs.Lists.{all, foldAll, zipWith}
 use Rattle.basics.specs.Refusals.{Test, refuse, fault, Answer, refused, success, answer}
 use Rattle.floats.specs.Rounded.{_⊕_, _⊖_, _⊗_, _⊘_, ofNat, zeroF, pow2, pow2⁻}
 use Rattle.floats.specs.Tests.{maxOf, finite, sameBits}
 use Rattle.floats.specs.Sqrt.{sqrtOf}
 use Rattle.geometry.specs.declared.Position.{Position}
 use Rattle.geometry.specs.Position.{coords, positionOf, dimension, coordinate}
+use Rattle.geometry.specs.Distances.{from}
 use Rattle.grid.specs.declared.Divisions.{Divisions}
 use Rattle.grid.specs.Divisions.{divisionsOf, numDivisions}
 use Rattle.grid_search.specs.declared.GivenU64.{GivenU64}
@@ -41,16 +42,9 @@ borderOf (float.Given b) = b
 
 -- ---- what they give
 
--- the largest, from the left
-unfoldable pub largestFrom : Float → List Float → Float
-unfolding maxOf
-largestFrom a [] = a
-largestFrom a (x ∷ xs) = largestFrom (maxOf a x) xs
-
 unfoldable pub largest : List Float → Float
-unfolding largestFrom
-largest [] = zeroF
-largest (x ∷ xs) = largestFrom x xs
+unfolding foldAll maxOf
+largest xs = foldAll maxOf zeroF xs
 
 -- the corners moved outwards by a border above 0
 unfoldable pub lowered : Float → List Float → List Float
@@ -63,8 +57,8 @@ raised border hi = cond (lt zeroF border) (map (λ (a : Float). a ⊕ border) hi
 
 -- the largest (xmax - xmin) / divisions
 unfoldable pub sideOf : List Float → List Float → List ℕ → Float
-unfolding largest zipWith
-sideOf xmin xmax ns = largest (zipWith (λ (d : Float) (n : ℕ). d ⊘ ofNat n) (zipWith (λ (b a : Float). b ⊖ a) xmax xmin) ns)
+unfolding largest zipWith from
+sideOf xmin xmax ns = largest (zipWith (λ (d : Float) (n : ℕ). d ⊘ ofNat n) (from xmin xmax) ns)
 
 -- the high corner of the containers: xmin + side × divisions
 unfoldable pub coveredOf : Float → List Float → List ℕ → List Float
