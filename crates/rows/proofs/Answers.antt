@@ -11,10 +11,11 @@ use lib.Ieee.{Float}
 use native.Mathlib.Omega.{arith}
 use borrow.Author.Tests.{le-leb, lt-leb, eqb-true, not-false}
 use Rattle.basics.specs.Lists.{all, any}
-use Rattle.basics.specs.Refusals.{Test, refuse, fault, code, success, fault-stop, fault-right, code-none, code-some, unrefused}
+use Rattle.basics.specs.Refusals.{Test, refuse, fault, code, success}
+use Rattle.basics.proofs.Refusals.{fault-stop, fault-right, code-none, code-some, unrefused}
 use Rattle.geometry.specs.declared.Position.{Position}
 use Rattle.geometry.specs.Position.{coords, positionOf, coordinate}
-use Rattle.geometry.specs.Axes.{coords-of}
+use Rattle.geometry.proofs.Axes.{coords-of}
 use Rattle.grid.specs.declared.ContainerKey.{ContainerKey}
 use Rattle.grid.specs.declared.Located.{Located}
 use Rattle.grid.specs.declared.Located.the-variants.{Key, Exceeds}

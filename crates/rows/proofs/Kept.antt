@@ -12,19 +12,20 @@ use lib.Dec.{ltb, leb, eqb}
 use lib.ListN.{length}
 use lib.Ieee.{Float}
 use borrow.Author.Tests.{leb-true, le-leb, lt-ltb, eqb-true, not-false}
-use Rattle.basics.specs.Bools.{both, and-both, and-left, or-left, or-right}
+use Rattle.basics.proofs.Bools.{both, and-both, and-left, or-left, or-right}
 use Rattle.basics.specs.Lists.{all, any, zipWith}
-use Rattle.basics.specs.Refusals.{fault, unrefused, fault-left, fault-right}
+use Rattle.basics.specs.Refusals.{fault}
+use Rattle.basics.proofs.Refusals.{unrefused, fault-left, fault-right}
 use Rattle.floats.specs.Rounded.{zeroF}
 use Rattle.floats.specs.Tests.{sameBits}
 use Rattle.geometry.specs.Position.{coords, positionOf, coordinate}
-use Rattle.geometry.specs.Axes.{two-or-three, coords-of}
+use Rattle.geometry.proofs.Axes.{two-or-three, coords-of}
 use Rattle.grid.specs.Divisions.{counts, division}
 use Rattle.grid.specs.Containers.{ratios, exceed, inner, combine, keyOf, containers}
-use Rattle.grid.specs.Keys.{digit, indices-below}
+use Rattle.grid.proofs.Keys.{digit-below, indices-below}
 use Rattle.grid_search.specs.declared.GridSearch.{GridSearch}
 use Rattle.grid_search.specs.Sheet.{sheetOk}
-use Rattle.grid_search.specs.Good.{good}
+use Rattle.grid_search.proofs.Good.{good}
 use Rattle.table.specs.declared.Row.{Row}
 use Rattle.table.specs.Rows.{slotOf, sorted}
 use Rattle.table.specs.Library.{Library, table, write, space, tooLong, level, fits, roomy, soundLayout}
@@ -51,7 +52,7 @@ combined (n ∷ ns) [] d e = some-container (n ∷ ns) d
 combined (n ∷ ns) (r ∷ rs) d e =
     let a = and-both (division n) (all division ns) d in
     let i = indices-below (n ∷ []) (r ∷ []) refl (both (a .0) refl) (or-false (ltb n r) ∙ or-left (ltb n r) (exceed ns rs) e) .0 in
-    digit n (inner n r) (combine ns (zipWith inner ns rs)) (containers ns) i (combined ns rs (a .1) (or-right (ltb n r) (exceed ns rs) e))
+    digit-below n (inner n r) (combine ns (zipWith inner ns rs)) (containers ns) i (combined ns rs (a .1) (or-right (ltb n r) (exceed ns rs) e))
 
 module _ (s : GridSearch) (h : sheetOk s ≡ true) where
   -- where no point overshoots, each key is below the number of containers

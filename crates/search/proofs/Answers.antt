@@ -7,7 +7,8 @@ use mathlib.Core.Option.{Option, none, some}
 use mathlib.Core.List.{List, [], _∷_, _++_, append-nil}
 use lib.Ieee.{Float}
 use Rattle.basics.specs.Lists.{any, keep}
-use Rattle.basics.specs.Refusals.{Test, fault, code, answer, success, refused, fault-right}
+use Rattle.basics.specs.Refusals.{Test, fault, code, answer, success, refused}
+use Rattle.basics.proofs.Refusals.{fault-right}
 use Rattle.grid_search.specs.declared.GridSearch.{GridSearch}
 use Rattle.table.specs.Library.{Library, table}
 use Rattle.rows.specs.Damage.{libraryTests}

@@ -12,8 +12,8 @@ use lib.Dec.{ltb}
 use lib.ListN.{length, getD, take}
 use lib.Seq.{length-take-le, getD-take}
 use borrow.Author.Tests.{ltb-true, ltb-false, le-ltb}
-use Rattle.basics.specs.Bools.{by-test}
-use Rattle.basics.specs.Laws.{map-tab, tab-take}
+use Rattle.basics.proofs.Bools.{by-test}
+use Rattle.basics.proofs.Lists.{map-tab, tab-take}
 use Rattle.table.specs.Rows.{Slot, slotted, slotAt, slotsOf, before, sorted, lower, lead}
 use Rattle.table.specs.Posts.{Rising, Ordered, OneBelow, Between}
 use Rattle.table.proofs.Order.{Lex, before-lex, sorted-at}

@@ -11,9 +11,9 @@ use lib.ListN.{length, take, drop, length-map, length-append, length-drop, take-
 use lib.Seq.{drop-nil}
 use lib.Ieee.{Float, nan}
 use borrow.Author.Tests.{leb-true, eqb-true}
-use Rattle.basics.specs.Bools.{both, and-both}
+use Rattle.basics.proofs.Bools.{both, and-both}
 use Rattle.basics.specs.Lists.{all, over}
-use Rattle.basics.specs.Laws.{length-tab, map-tab, tab-take}
+use Rattle.basics.proofs.Lists.{length-tab, map-tab, tab-take}
 use Rattle.table.specs.declared.Row.{Row}
 use Rattle.table.specs.Rows.{slotOf, slotAt, slotsOf, keyIn, idIn, xIn, yIn, zIn}
 use Rattle.table.specs.Library.{Library, library, rowAt, rowsOf, table, write, lengths, Space, space, level, fits, roomy, soundLayout}

@@ -4,7 +4,7 @@ use mathlib.Core.Path.{_≡_, refl, sym, _∙_, subst}
 use mathlib.Core.Bool.{true, false, cond}
 use mathlib.Core.List.{List, [], _∷_, map}
 use mathlib.Core.Option.{some}
-use Rattle.basics.specs.Bools.{by-test, clash, both, and-both}
+use Rattle.basics.proofs.Bools.{by-test, clash, both, and-both}
 use Rattle.table.specs.declared.Row.{Row}
 use Rattle.table.specs.Rows.{Slot, slotOf, before, same, chain, sorted, putRow, rowFor}
 use Rattle.table.proofs.Order.{before-irrefl, before-total, same-eq}

@@ -7,7 +7,7 @@ use borrow.Author.Needs.{needs}
 use borrow.Author.Tests.{not-true, not-false}
 use Prim.Native.Nat.{ℕ}
 use Rattle.basics.specs.Lists.{all}
-use Rattle.geometry.specs.Axes.{three}
+use Rattle.geometry.proofs.Axes.{three}
 use Rattle.rows.specs.Posts.{third}
 use Rattle.rows.proofs.Check.{bad-xs, bad-ys, only-zs}
 use Rattle.rows.proofs.are_points_good.Statement.{statement}
