@@ -1,6 +1,6 @@
 -- Among rows in strict order, the first near one of a container has the lowest id; and the walk that finds it.
 -- Assumes nothing.
-use Prim.Native.Nat.{ℕ, zero, suc, _+_, min, _≤_, _<_, zero-le, suc-le-suc}
+use Prim.Native.Nat.{ℕ, zero, suc, _+_, _≤_, _<_, zero-le, suc-le-suc}
 use native.Mathlib.Nat.{le-of-suc-le-suc, min-eq-left, le-min}
 use native.Mathlib.Numerals.{add-one}
 use native.Mathlib.Omega.{arith}

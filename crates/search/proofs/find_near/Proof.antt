@@ -1,9 +1,8 @@
 -- `find_near` meets its contract. Invariant: `Looking`.
 -- Assumes nothing.
 use Prim.Native.Nat.{_-_}
-use mathlib.Core.Path.{sym, ap, _∙_}
+use mathlib.Core.Path.{sym, ap}
 use borrow.Author.Needs.{needs}
-use native.Mathlib.Omega.{arith}
 use Rattle.basics.specs.Refusals.{success}
 use Rattle.geometry.specs.Position.{coords}
 use Rattle.table.specs.Library.{library}
