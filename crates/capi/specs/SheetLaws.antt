@@ -11,14 +11,13 @@ use lib.ListN.{length, getD}
 use lib.Seq.{take-all}
 use lib.Ieee.{Float, nan, fits}
 use borrow.Author.Tests.{eqb-true}
-use Rattle.basics.specs.Bools.{by-test, and-both, or-either, clash}
+use Rattle.basics.proofs.Bools.{by-test, and-both, or-either, clash}
 use Rattle.basics.specs.Lists.{tab}
-use Rattle.basics.specs.Laws.{tab-take}
+use Rattle.basics.proofs.Lists.{tab-take}
 use Rattle.basics.specs.Refusals.{refused, success}
 use Rattle.floats.specs.Rounded.{zeroF}
-use Rattle.floats.specs.Tests.{sameBits}
-use Rattle.floats.specs.Laws.{Binary64}
-use Rattle.floats.specs.Unique.{same-bits-same}
+use Rattle.floats.specs.Tests.{sameBits, Binary64}
+use Rattle.floats.proofs.Unique.{same-bits-same}
 use Rattle.geometry.specs.Position.{dimension}
 use Rattle.grid_search.specs.declared.GivenU64.{GivenU64}
 use Rattle.grid_search.specs.declared.GivenU64.the-variants as number
@@ -26,7 +25,7 @@ use Rattle.grid_search.specs.declared.GivenF64.{GivenF64}
 use Rattle.grid_search.specs.declared.GivenF64.the-variants as float
 use Rattle.grid_search.specs.declared.GridSearch.{GridSearch}
 use Rattle.grid_search.specs.Sheet.{newSheet, sheetOk}
-use Rattle.grid_search.specs.Good.{no-axes}
+use Rattle.grid_search.proofs.Good.{no-axes}
 use Rattle.capi.specs.Sheets.{givenNumber, givenFloat, numberFlag, numberEntry, floatFlag, floatEntry, numbersOf, floatsOf, sheetLengths, numberRead, floatRead, readable, readSheet, noSheet, sheetOf, newInC, ToldSheet}
 
 -- ---- what is written is read back

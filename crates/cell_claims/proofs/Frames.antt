@@ -13,20 +13,20 @@ use lib.Ieee.Fits.{sub-fits}
 use lib.Ieee.Exact.{HasValue}
 use lib.Ieee.Back.{round-whole}
 use borrow.Author.Tests.{not-true}
-use Rattle.basics.specs.Bools.{by-test, both, and-left, and-right, and-both, or-left, or-right}
+use Rattle.basics.proofs.Bools.{by-test, both, and-left, and-right, and-both, or-left, or-right}
 use Rattle.basics.specs.Lists.{all, zipWith}
 use Rattle.floats.specs.Rounded.{_⊕_, _⊖_, _⊗_, ofNat, zeroF, pow2, pow2⁻}
 use Rattle.floats.specs.Tests.{finite}
-use Rattle.floats.specs.Choice.{within-ends}
-use Rattle.floats.specs.Upto.{Upto, upto-finite, upto-more, upto-within, add-upto, mul-upto, between-upto, nat-upto, unsigned, mul-unsigned}
+use Rattle.floats.proofs.Choice.{within-ends}
+use Rattle.floats.proofs.Upto.{Upto, upto-finite, upto-more, upto-within, add-upto, mul-upto, between-upto, nat-upto, unsigned, mul-unsigned}
 use Rattle.geometry.specs.Position.{coords, positionOf, dimension, coordinate}
-use Rattle.geometry.specs.Axes.{coords-of}
+use Rattle.geometry.proofs.Axes.{coords-of}
 use Rattle.grid.specs.Divisions.{counts, division, divisionsOf}
-use Rattle.grid.specs.Bounds.{first-of, rest-of}
-use Rattle.grid.specs.Shares.{counts-of}
+use Rattle.grid.proofs.Bounds.{first-of, rest-of}
+use Rattle.grid.proofs.Shares.{counts-of}
 use Rattle.grid_search.specs.Sheet.{lowered, raised, coveredOf}
-use Rattle.grid_search.specs.Sizes.{Sized, coordinates-sized, lowered-sized, raised-sized, above-zero}
-use Rattle.grid_search.specs.Laws.{lowered-length, raised-length}
+use Rattle.grid_search.proofs.Sizes.{Sized, coordinates-sized, lowered-sized, raised-sized, above-zero}
+use Rattle.grid_search.proofs.Laws.{lowered-length, raised-length}
 use Rattle.cell_sizes.specs.declared.Settings.{Settings}
 use Rattle.grid_cells.specs.declared.GridCells.{GridCells}
 use Rattle.grid_cells.specs.Build.{finiteSettings, pastLimits, settingsOk, cellDivisions}

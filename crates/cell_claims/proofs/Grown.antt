@@ -14,14 +14,14 @@ use lib.Ieee.Fits.{down-pos, round-is, round-fits}
 use lib.Ieee.Exact.{round-exact}
 use lib.Ieee.Order.{round-mono}
 use borrow.Author.Tests.{ltb-false, eq-eqb}
-use Rattle.basics.specs.Bools.{by-test}
+use Rattle.basics.proofs.Bools.{by-test}
 use Rattle.floats.specs.Rounded.{_⊕_, zeroF}
 use Rattle.floats.specs.Tests.{finite}
-use Rattle.floats.specs.Held.{held}
-use Rattle.floats.specs.Exact.{in-units}
-use Rattle.floats.specs.Unique.{value-unique}
-use Rattle.floats.specs.Order.{le-cross, le-join}
-use Rattle.floats.specs.Upto.{unsigned}
+use Rattle.floats.proofs.Held.{held}
+use Rattle.floats.proofs.Exact.{in-units}
+use Rattle.floats.proofs.Unique.{value-unique}
+use Rattle.floats.proofs.Order.{le-cross, le-join}
+use Rattle.floats.proofs.Upto.{unsigned}
 
 -- ---- a value that binary64 holds is its own rounding
 own : (s : Bool) (m : ℕ) (e : ℤ) → T (fits binary64 (fin s m e)) → round binary64 s (m * up e) (down e) ≡ fin s m e

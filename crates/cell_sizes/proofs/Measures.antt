@@ -10,7 +10,7 @@ use lib.Dec.{eqb}
 use lib.ListN.{length, drop}
 use lib.Ieee.{Float, le}
 use borrow.Author.Tests.{eqb-true, eqb-false}
-use Rattle.basics.specs.Bools.{by-test}
+use Rattle.basics.proofs.Bools.{by-test}
 use Rattle.basics.specs.Lists.{keep}
 use Rattle.floats.specs.Rounded.{_⊗_, _⊘_, ofNat, zeroF}
 use Rattle.floats.specs.Tests.{minOf, maxOf}

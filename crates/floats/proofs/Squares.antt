@@ -3,7 +3,7 @@ use mathlib.Core.Path.{_≡_, sym, ap, _∙_, subst}
 use Prim.Native.Nat.{ℕ, suc, _+_, _-_, _*_, _/_, _%_, _^_, _≤_, _<_}
 use native.Mathlib.Nat.{le-of-suc-le-suc, lt-of-not-le, lt-irrefl, mul-comm, mul-right-comm, mul-mul-mul-comm, add-mul, mul-add, mul-le-mul, mul-le-mul-left}
 use native.Mathlib.Omega.{arith}
-use Rattle.floats.specs.Near.{square-suc, square-odd}
+use Rattle.floats.proofs.Near.{square-suc, square-odd}
 use Rattle.floats.specs.Posts.{Rounded}
 
 -- √S is between q - 1/2 and q + 1/2 where q * q - q < S ≤ q * q + q, and then q has 53 digits

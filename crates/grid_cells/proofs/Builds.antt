@@ -10,9 +10,10 @@ use lib.Dec.{ltb, eqb}
 use lib.ListN.{length}
 use lib.Ieee.{Float}
 use borrow.Author.Tests.{lt-ltb, le-ltb, eq-eqb, ne-eqb, ltb-false, eqb-true, not-false}
-use Rattle.basics.specs.Bools.{by-test, or-left, or-right}
+use Rattle.basics.proofs.Bools.{by-test, or-left, or-right}
 use Rattle.basics.specs.Lists.{all, any, over}
-use Rattle.basics.specs.Refusals.{Test, fault, code, refused, success, answer, Passed, unrefused, fault-stop, fault-right}
+use Rattle.basics.specs.Refusals.{Test, fault, code, refused, success, answer}
+use Rattle.basics.proofs.Refusals.{Passed, unrefused, fault-stop, fault-right}
 use Rattle.geometry.specs.Position.{dimension}
 use Rattle.grid.specs.Divisions.{counts, division}
 use Rattle.grid_search.specs.Sheet.{above}

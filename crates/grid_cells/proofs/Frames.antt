@@ -9,16 +9,17 @@ use mathlib.Core.List.{List, [], _∷_, map}
 use lib.Dec.{eqb}
 use lib.ListN.{length}
 use lib.Ieee.{Float}
-use Rattle.basics.specs.Bools.{or-right}
+use Rattle.basics.proofs.Bools.{or-right}
 use Rattle.basics.specs.Lists.{all, any, zipWith}
-use Rattle.basics.specs.Refusals.{fault, code, refused, success, answer, unrefused}
+use Rattle.basics.specs.Refusals.{fault, code, refused, success, answer}
+use Rattle.basics.proofs.Refusals.{unrefused}
 use Rattle.floats.specs.Rounded.{_⊕_, _⊗_, pow2}
 use Rattle.geometry.specs.declared.Position.{Position}
 use Rattle.geometry.specs.Position.{coords, positionOf, dimension}
-use Rattle.geometry.specs.Axes.{coords-of, coords-length}
+use Rattle.geometry.proofs.Axes.{coords-of, coords-length}
 use Rattle.grid.specs.declared.Divisions.{Divisions}
 use Rattle.grid.specs.Divisions.{counts, divisionsOf, division}
-use Rattle.grid.specs.Shares.{counts-of}
+use Rattle.grid.proofs.Shares.{counts-of}
 use Rattle.grid_search.specs.Sheet.{lowered, raised, coveredOf, above}
 use Rattle.mesh.specs.Mesh.{Mesh, Box, cellCount, least, greatest}
 use Rattle.cell_sizes.specs.declared.Settings.{Settings}
@@ -28,7 +29,7 @@ use Rattle.grid_cells.specs.Build.{lowCorner, highCorner, cellSide, cell
 use Rattle.cell_sizes.specs.Steps.{Sized}
 use Rattle.grid_cells.specs.Steps.{divisionTests, frameTests}
 use Rattle.cell_sizes.proofs.Boxes.{length-boxes}
-use Rattle.grid_search.specs.Laws.{lowered-length, raised-length}
+use Rattle.grid_search.proofs.Laws.{lowered-length, raised-length}
 use Rattle.grid_cells.proofs.Ways.{Numbered, code-some, code-none, divided}
 
 numbers : (low high : List Float) (ns : List ℕ) → Numbered (divisionTests low high ns)

@@ -6,7 +6,7 @@ use mathlib.Core.List.{List, [], _∷_, map}
 use lib.ListN.{take}
 use lib.Ieee.{Float, lt}
 use Rattle.basics.specs.Lists.{all, zipWith}
-use Rattle.basics.specs.Laws.{map-take}
+use Rattle.basics.proofs.Lists.{map-take}
 use Rattle.geometry.specs.declared.Position.{Position}
 use Rattle.geometry.specs.Position.{coords, positionOf}
 use Rattle.grid_search.specs.Sheet.{above}

@@ -8,15 +8,15 @@ use Rattle.basics.specs.Lists.{all}
 use Rattle.floats.specs.Rounded.{_⊗_, _⊘_, pow2}
 use Rattle.geometry.specs.declared.Position.{Position}
 use Rattle.geometry.specs.Position.{coords, positionOf, dimension}
-use Rattle.geometry.specs.Axes.{coords-length, coords-of}
+use Rattle.geometry.proofs.Axes.{coords-length, coords-of}
 use Rattle.grid.specs.declared.Divisions.{Divisions}
 use Rattle.grid.specs.Divisions.{counts, divisionsOf, division, numDivisions}
-use Rattle.grid.specs.Shares.{divisions-length, counts-of}
+use Rattle.grid.proofs.Shares.{divisions-length, counts-of}
 use Rattle.grid_search.specs.declared.GivenU64.{GivenU64}
 use Rattle.grid_search.specs.declared.GivenF64.{GivenF64}
 use Rattle.grid_search.specs.declared.GridSearch.{GridSearch}
 use Rattle.grid_search.specs.Sheet.{numberOf, toleranceOf, borderOf, lowered, raised, sideOf, coveredOf, diagonal, above, build}
-use Rattle.grid_search.specs.Laws.{divisions-good, lowered-length, raised-length}
+use Rattle.grid_search.proofs.Laws.{divisions-good, lowered-length, raised-length}
 
 module _ (n : ℕ) (low high : Position) (d : dimension n ≡ true) where
   pub both-lengths : length (coords n high) ≡ length (coords n low)

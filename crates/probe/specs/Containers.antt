@@ -1,11 +1,9 @@
 -- The key and the centre of a container, of any arguments.
 -- Assumes nothing.
 use Prim.Native.Nat.{ℕ, _-_, _^_}
-use mathlib.Core.Path.{_≡_}
-use mathlib.Core.Bool.{Bool, true, cond, _&&_}
+use mathlib.Core.Bool.{Bool, cond, _&&_}
 use lib.Dec.{ltb}
 use lib.Ieee.{Float}
-use Rattle.basics.specs.Bools.{and-both}
 use Rattle.basics.specs.Lists.{all}
 use Rattle.geometry.specs.declared.Position.{Position}
 use Rattle.geometry.specs.Position.{coords, positionOf, dimension}
@@ -34,8 +32,3 @@ keyIn n d side xmin x = cond (isGrid n d) (keyNumber (located (counts n d) side 
 unfoldable pub centreIn : ℕ → Divisions → Float → Position → ℕ → Position → Position
 unfolding isGrid containers centre pivots
 centreIn n d side xmin key old = cond (isGrid n d && ltb key (containers (counts n d))) (positionOf (centre side (coords n xmin) (pivots (counts n d) key))) old
-
--- ---- what the test of a grid says
-pub grid-parts : (n : ℕ) (d : Divisions) → isGrid n d ≡ true → (dimension n ≡ true) × (all division (counts n d) ≡ true)
-unfolding isGrid
-grid-parts n d h = and-both (dimension n) (all division (counts n d)) h

@@ -11,9 +11,9 @@ use borrow.Author.Tests.{not-true, not-false, eq-eqb, ne-eqb, lt-ltb, le-ltb}
 use Rattle.basics.specs.Refusals.{success}
 use Rattle.floats.specs.Rounded.{zeroF}
 use Rattle.geometry.specs.Position.{coords, dimension}
-use Rattle.geometry.specs.Axes.{coords-length}
+use Rattle.geometry.proofs.Axes.{coords-length}
 use Rattle.grid_search.specs.Sheet.{numberOf, toleranceOf, borderOf, outOfLimits, above}
-use Rattle.grid_search.specs.Laws.{refused-3, refused-4, refused-5, refused-6, refused-7, refused-8, refused-9, refused-10, accepted}
+use Rattle.grid_search.proofs.Laws.{refused-3, refused-4, refused-5, refused-6, refused-7, refused-8, refused-9, refused-10, accepted}
 use Rattle.grid_search.proofs.Parts.{both-lengths}
 use Rattle.grid_search.proofs.sheet_from.Statement.{statement}
 use Rattle.grid_search.proofs.sheet_from.Tie as tie

@@ -1,11 +1,12 @@
 use mathlib.Core.Path.{sym, _∙_}
 use lib.Dec.{ltb}
 use borrow.Author.Tests.{ltb-true}
-use Rattle.basics.specs.Bools.{and-both}
+use Rattle.basics.proofs.Bools.{and-both}
 use Rattle.grid.specs.declared.Divisions.{Divisions}
 use Rattle.grid.specs.Divisions.{counts}
 use Rattle.grid.specs.Containers.{containers}
-use Rattle.probe.specs.Containers.{isGrid, centreIn, grid-parts}
+use Rattle.probe.specs.Containers.{isGrid, centreIn}
+use Rattle.probe.proofs.Grids.{grid-parts}
 use borrow.Author.Needs.{needs}
 use Rattle.probe.proofs.containers.probe_container_center.Statement.{statement}
 use Rattle.probe.proofs.containers.probe_container_center.Tie as tie

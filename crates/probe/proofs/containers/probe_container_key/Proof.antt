@@ -1,7 +1,8 @@
 -- `probe::containers::probe_container_key` meets its contract. Assumes nothing.
 use mathlib.Core.Path.{sym, ap, _∙_}
 use borrow.Author.Tests.{not-true, not-false}
-use Rattle.probe.specs.Containers.{keyIn, keyNumber, grid-parts}
+use Rattle.probe.specs.Containers.{keyIn, keyNumber}
+use Rattle.probe.proofs.Grids.{grid-parts}
 use borrow.Author.Needs.{needs}
 use Rattle.probe.proofs.containers.probe_container_key.Statement.{statement}
 use Rattle.probe.proofs.containers.probe_container_key.Tie as tie

@@ -4,9 +4,9 @@ use mathlib.Core.Path.{_≡_, refl, sym}
 use mathlib.Core.Logic.{_⊎_, inl, inr}
 use mathlib.Core.Bool.{Bool, true, false, cond, _&&_, _||_, false≢true}
 use lib.Ieee.{Float, nan, inf, fin, lt, le, isNan, neg}
-use Rattle.basics.specs.Bools.{which, or-true}
+use Rattle.basics.proofs.Bools.{which, or-true}
 use Rattle.floats.specs.Tests.{absOf, minOf, maxOf, finite, within}
-use Rattle.floats.specs.Order.{lt-le, le-self, not-lt-le, le-ends}
+use Rattle.floats.proofs.Order.{lt-le, le-self, not-lt-le, le-ends}
 
 -- ---- the magnitude
 pub abs-abs : (x : Float) → absOf (absOf x) ≡ absOf x

@@ -11,28 +11,26 @@ use lib.ListN.{length, getD, take}
 use lib.Ieee.{Float, binary64, fits, lt}
 use lib.Ieee.Fits.{add-fits, sub-fits, mul-fits, div-fits}
 use borrow.Author.Tests.{eq-eqb}
-use Rattle.basics.specs.Bools.{by-test, both, and-left, and-right, and-both}
+use Rattle.basics.proofs.Bools.{by-test, both, and-left, and-right, and-both}
 use Rattle.basics.specs.Lists.{all, zipWith}
 use Rattle.basics.specs.Refusals.{fault, success, answer}
 use Rattle.floats.specs.Rounded.{_⊖_, _⊗_, _⊘_, ofNat, zeroF, pow2}
-use Rattle.floats.specs.Tests.{finite, sameBits, maxOf}
-use Rattle.floats.specs.Laws.{Binary64}
-use Rattle.floats.specs.Choice.{max-either}
-use Rattle.floats.specs.Unique.{same-bits-same, same-bits-self}
-use Rattle.floats.specs.Upto.{upto-finite}
+use Rattle.floats.specs.Tests.{finite, sameBits, maxOf, Binary64}
+use Rattle.floats.proofs.Choice.{max-either}
+use Rattle.floats.proofs.Unique.{same-bits-same, same-bits-self}
+use Rattle.floats.proofs.Upto.{upto-finite}
 use Rattle.geometry.specs.declared.Position.{Position}
 use Rattle.geometry.specs.Position.{coords, positionOf}
-use Rattle.geometry.specs.Axes.{coords-of}
+use Rattle.geometry.proofs.Axes.{coords-of}
 use Rattle.grid.specs.declared.Divisions.{Divisions}
 use Rattle.grid.specs.Divisions.{numDivisions}
 use Rattle.grid_search.specs.declared.GivenU64.{GivenU64}
 use Rattle.grid_search.specs.declared.GivenF64.{GivenF64}
 use Rattle.grid_search.specs.declared.GridSearch.{GridSearch}
-use Rattle.grid_search.specs.Sheet.{numberOf, toleranceOf, borderOf, build, sheetTests, newSheet, samePosition, sameDivisions, sameSheet, sheetOk}
-use Rattle.grid_search.specs.Sheet.{lowered, raised, largestFrom, largest, sideOf, coveredOf, diagonal}
-use Rattle.grid_search.specs.Sizes.{sized-finite, coordinates-sized, finite-number}
-use Rattle.grid_search.specs.Sound.{accepted-by, xminFrom, xmaxFrom, sound}
-use Rattle.grid_search.specs.Good.{lowOf, highOf, rebuilt, remade, kept, same-fields, good}
+use Rattle.grid_search.specs.Sheet.{numberOf, toleranceOf, borderOf, build, sheetTests, newSheet, samePosition, sameDivisions, sameSheet, sheetOk, lowered, raised, largestFrom, largest, sideOf, coveredOf, diagonal}
+use Rattle.grid_search.proofs.Sizes.{sized-finite, coordinates-sized, finite-number}
+use Rattle.grid_search.proofs.Sound.{accepted-by, xminFrom, xmaxFrom, sound}
+use Rattle.grid_search.proofs.Good.{lowOf, highOf, rebuilt, remade, kept, same-fields, good}
 
 -- ---- a good sheet is the one that its settings give
 pub record HeldPosition (p : Position) : Type 0 where

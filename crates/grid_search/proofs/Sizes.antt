@@ -8,16 +8,16 @@ use mathlib.Core.List.{List, [], _∷_, map}
 use lib.Dec.{lit≤}
 use lib.Ieee.{Float, nan, inf, fin, lt, le, isNan, ofInt}
 use borrow.Author.Tests.{not-false}
-use Rattle.basics.specs.Bools.{by-test, both, and-left, and-right, and-both, or-left, or-right, clash}
+use Rattle.basics.proofs.Bools.{by-test, both, and-left, and-right, and-both, or-left, or-right, clash}
 use Rattle.basics.specs.Lists.{all, zipWith}
 use Rattle.floats.specs.Rounded.{_⊕_, _⊖_, _⊗_, _⊘_, ofNat, zeroF, pow2}
 use Rattle.floats.specs.Tests.{finite, maxOf}
-use Rattle.floats.specs.Order.{lt-is-not-le, le-join}
-use Rattle.floats.specs.Upto.{Upto, upto-finite, upto-more, within-upto, add-upto, sub-upto, mul-upto, div-upto, nat-upto, nat-from1, max-upto, above-unsigned, mul-unsigned, unsigned-above}
+use Rattle.floats.proofs.Order.{lt-is-not-le, le-join}
+use Rattle.floats.proofs.Upto.{Upto, upto-finite, upto-more, within-upto, add-upto, sub-upto, mul-upto, div-upto, nat-upto, nat-from1, max-upto, above-unsigned, mul-unsigned, unsigned-above}
 use Rattle.geometry.specs.Position.{dimension, coordinate}
-use Rattle.geometry.specs.Axes.{two-or-three}
+use Rattle.geometry.proofs.Axes.{two-or-three}
 use Rattle.grid.specs.Divisions.{division}
-use Rattle.grid.specs.Bounds.{first-of, rest-of}
+use Rattle.grid.proofs.Bounds.{first-of, rest-of}
 use Rattle.grid_search.specs.Sheet.{lowered, raised, largestFrom, largest, sideOf, coveredOf, diagonal, outOfLimits}
 
 -- ---- lists whose entries are at most n in size

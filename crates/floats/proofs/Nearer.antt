@@ -14,14 +14,14 @@ use lib.Ieee.{Float, nan, inf, fin, binary64, up, down, fits, le, ofBits}
 use lib.Ieee.Exact.{HasValue}
 use lib.Ieee.Fits.{down-pos}
 use borrow.Author.Tests.{le-ltb, ltb-true}
-use Rattle.basics.specs.Bools.{by-test, clash}
+use Rattle.basics.proofs.Bools.{by-test, clash}
 use Rattle.floats.specs.Rounded.{zeroF}
 use Rattle.floats.specs.Tests.{finite}
 use Rattle.floats.specs.Sqrt.{sqrtOf, sqrtIn}
-use Rattle.floats.specs.Held.{held}
-use Rattle.floats.specs.Near.{square-double}
-use Rattle.floats.specs.Exact.{Nearest, sqrt-nearest, in-units}
-use Rattle.floats.specs.Roots.{below-zero}
+use Rattle.floats.proofs.Held.{held}
+use Rattle.floats.proofs.Near.{square-double}
+use Rattle.floats.proofs.Exact.{Nearest, sqrt-nearest, in-units}
+use Rattle.floats.proofs.Roots.{below-zero}
 
 -- The size of a finite value in units of 2 ^ -1074, the smallest value of binary64: every value of binary64 is a whole number of them.
 unfoldable pub units : Float → ℕ

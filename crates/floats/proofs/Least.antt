@@ -12,7 +12,7 @@ use lib.Ieee.{fin, binary64, up, down, round, fits}
 use lib.Ieee.Fits.{down-pos, eq→eqb}
 use lib.Ieee.Exact.{HasValue}
 use lib.Ieee.Back.{round-whole}
-use Rattle.floats.specs.Held.{held}
+use Rattle.floats.proofs.Held.{held}
 use Rattle.floats.specs.Ceil.{ceilOf}
 
 -- c is n / d, or the whole number next to it: above it where s is false, and nearer to zero where s is true

@@ -16,14 +16,14 @@ use lib.Ieee.Fits.{two, two-le-pos, reach, up-pos, odd-fits, nan-fits}
 use lib.Ieee.Order.{le-of-values}
 use lib.Ieee.Positive.{positive, value-pos, positive-of-value, values-of-le, above, above-of-le}
 use borrow.Author.Tests.{le-ltb, ne-eqb}
-use Rattle.basics.specs.Bools.{clash}
+use Rattle.basics.proofs.Bools.{clash}
 use Rattle.floats.specs.Rounded.{zeroF}
 use Rattle.floats.specs.Sqrt.{root, rootOf, sqrtIn}
-use Rattle.floats.specs.Near.{Near, square-suc, square-double, lower-k, lower-q, root-of-near, sqrt-value}
-use Rattle.floats.specs.Exact.{Nearest, sqrt-nearest, in-units, pow-lt-back}
-use Rattle.floats.specs.Order.{le-self, le-join, not-lt-le, le-left, le-right}
-use Rattle.floats.specs.Held.{held, one-size, rescale}
-use Rattle.floats.specs.Unique.{value-unique}
+use Rattle.floats.proofs.Near.{Near, square-suc, square-double, lower-k, lower-q, root-of-near, sqrt-value}
+use Rattle.floats.proofs.Exact.{Nearest, sqrt-nearest, in-units, pow-lt-back}
+use Rattle.floats.proofs.Order.{le-self, le-join, not-lt-le, le-left, le-right}
+use Rattle.floats.proofs.Held.{held, one-size, rescale}
+use Rattle.floats.proofs.Unique.{value-unique}
 
 -- ---- the root of a value above zero is one of the format's
 near : (p l : ℕ) (x y : Float) (r : Nearest p l x y) → Near p (r .n * 2 ^ l) (r .q) (r .k)

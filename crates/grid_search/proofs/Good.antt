@@ -9,23 +9,23 @@ use lib.Dec.{eqb}
 use lib.ListN.{length}
 use lib.Ieee.{Float, nan, inf, fin, lt, le, eq}
 use borrow.Author.Tests.{eqb-true, not-true}
-use Rattle.basics.specs.Bools.{by-test, both, and-left, and-both, or-true, clash}
+use Rattle.basics.proofs.Bools.{by-test, both, and-left, and-both, or-true, clash}
 use Rattle.basics.specs.Lists.{all}
 use Rattle.basics.specs.Refusals.{fault, Answer, success, answer}
 use Rattle.floats.specs.Rounded.{zeroF, pow2}
 use Rattle.floats.specs.Tests.{finite, sameBits}
-use Rattle.floats.specs.Order.{lt-is-not-le, le-join, eq-turn}
-use Rattle.floats.specs.Upto.{upto-finite}
+use Rattle.floats.proofs.Order.{lt-is-not-le, le-join, eq-turn}
+use Rattle.floats.proofs.Upto.{upto-finite}
 use Rattle.geometry.specs.declared.Position.{Position}
 use Rattle.geometry.specs.Position.{coords, positionOf, dimension, coordinate}
-use Rattle.geometry.specs.Axes.{all-coords, coords-of}
+use Rattle.geometry.proofs.Axes.{all-coords, coords-of}
 use Rattle.grid.specs.declared.Divisions.{Divisions}
 use Rattle.grid.specs.Divisions.{counts, division}
-use Rattle.grid.specs.Shares.{counts-of}
+use Rattle.grid.proofs.Shares.{counts-of}
 use Rattle.grid_search.specs.declared.GridSearch.{GridSearch}
 use Rattle.grid_search.specs.Sheet.{toleranceOf, borderOf, build, sheetTests, newSheet, samePosition, sameDivisions, sameSheet, agrees, sheetOk}
-use Rattle.grid_search.specs.Sizes.{sized-finite, finite-number, above-zero}
-use Rattle.grid_search.specs.Sound.{divisionsFrom, xminFrom, xmaxFrom, sound}
+use Rattle.grid_search.proofs.Sizes.{sized-finite, finite-number, above-zero}
+use Rattle.grid_search.proofs.Sound.{divisionsFrom, xminFrom, xmaxFrom, sound}
 
 -- ---- the settings that a sheet keeps, and what they give
 abbrev pub lowOf : GridSearch → List Float

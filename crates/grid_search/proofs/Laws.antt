@@ -8,15 +8,15 @@ use lib.Dec.{leb, ltb, eqb}
 use lib.ListN.{length, length-map}
 use lib.Ieee.{Float, lt, le}
 use borrow.Author.Tests.{leb-true, le-leb}
-use Rattle.basics.specs.Bools.{by-test, both, and-left, and-right, and-both}
+use Rattle.basics.proofs.Bools.{by-test, both, and-left, and-right, and-both}
 use Rattle.basics.specs.Lists.{all}
 use Rattle.basics.specs.Refusals.{refused, success}
 use Rattle.floats.specs.Rounded.{_⊖_, _⊗_, zeroF, pow2}
-use Rattle.floats.specs.Upto.{unsigned, sub-unsigned}
+use Rattle.floats.proofs.Upto.{unsigned, sub-unsigned}
 use Rattle.geometry.specs.Position.{dimension}
 use Rattle.geometry.specs.Distances.{from}
 use Rattle.grid.specs.Divisions.{division, numDivisions}
-use Rattle.grid.specs.Shares.{upToNumber, divisions-range}
+use Rattle.grid.proofs.Shares.{upToNumber, divisions-range}
 use Rattle.grid_search.specs.declared.GivenU64.{GivenU64}
 use Rattle.grid_search.specs.declared.GivenF64.{GivenF64}
 use Rattle.grid_search.specs.Sheet.{numberOf, toleranceOf, borderOf, lowered, raised, above, outOfLimits, build, newSheet}

@@ -11,17 +11,13 @@ use lib.Ieee.Fits.{cond-fits, round-fits}
 use lib.Ieee.Positive.{positive}
 use Rattle.floats.specs.Rounded.{zeroF, truncate}
 use Rattle.floats.specs.Sqrt.{sqrtOf}
-use Rattle.floats.specs.Exact.{Nearest, sqrt-nearest}
-use Rattle.floats.specs.Roots.{sqrt-fits, sqrt-monotone, sqrt-square, sqrt-sign, sqrt-not-below}
-use Rattle.floats.specs.Nearer.{nearerRoot, root-is-finite, none-nearer}
-use Rattle.floats.specs.Whole.{WholePart, truncate-whole}
+use Rattle.floats.proofs.Exact.{Nearest, sqrt-nearest}
+use Rattle.floats.proofs.Roots.{sqrt-fits, sqrt-monotone, sqrt-square, sqrt-sign, sqrt-not-below}
+use Rattle.floats.proofs.Nearer.{nearerRoot, root-is-finite, none-nearer}
+use Rattle.floats.proofs.Whole.{WholePart, truncate-whole}
 use Rattle.floats.specs.Ceil.{ceilOf}
-use Rattle.floats.specs.Least.{Next, ceil-least}
-use Rattle.floats.specs.Tests.{absOf, finite}
-
--- x is a value of binary64: what an `f64` holds
-abbrev pub Binary64 : Float → Type 0
-Binary64 x = T (fits binary64 x)
+use Rattle.floats.proofs.Least.{Next, ceil-least}
+use Rattle.floats.specs.Tests.{Binary64, absOf, finite}
 
 -- ---- the root
 

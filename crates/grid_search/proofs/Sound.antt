@@ -10,20 +10,20 @@ use lib.Dec.{eqb}
 use lib.ListN.{length}
 use lib.Ieee.{Float, lt, le, eq}
 use borrow.Author.Tests.{eqb-true, eqb-false, ltb-false, not-false}
-use Rattle.basics.specs.Bools.{or-left}
+use Rattle.basics.proofs.Bools.{or-left}
 use Rattle.basics.specs.Lists.{all, zipWith}
-use Rattle.basics.specs.Refusals.{fault, Passed, unrefused}
+use Rattle.basics.specs.Refusals.{fault}
+use Rattle.basics.proofs.Refusals.{Passed, unrefused}
 use Rattle.floats.specs.Rounded.{_⊗_, _⊘_, zeroF, pow2}
-use Rattle.floats.specs.Upto.{Upto, upto-finite, between-upto}
+use Rattle.floats.proofs.Upto.{Upto, upto-finite, between-upto}
 use Rattle.geometry.specs.Position.{dimension}
 use Rattle.grid.specs.Divisions.{division, numDivisions}
-use Rattle.grid.specs.Shares.{divisions-length}
+use Rattle.grid.proofs.Shares.{divisions-length}
 use Rattle.grid_search.specs.declared.GivenU64.{GivenU64}
 use Rattle.grid_search.specs.declared.GivenF64.{GivenF64}
-use Rattle.grid_search.specs.Sheet.{numberOf, toleranceOf, borderOf, outOfLimits, above, build, sheetTests}
-use Rattle.grid_search.specs.Sheet.{lowered, raised, sideOf, coveredOf, diagonal}
-use Rattle.grid_search.specs.Laws.{divisions-good, lowered-length}
-use Rattle.grid_search.specs.Sizes.{Sized, coordinates-sized, lowered-sized, raised-sized, side-sized, covered-sized, diagonal-sized, near-sized, radius-sized, Limited, limited, above-zero, side-above}
+use Rattle.grid_search.specs.Sheet.{numberOf, toleranceOf, borderOf, outOfLimits, above, build, sheetTests, lowered, raised, sideOf, coveredOf, diagonal}
+use Rattle.grid_search.proofs.Laws.{divisions-good, lowered-length}
+use Rattle.grid_search.proofs.Sizes.{Sized, coordinates-sized, lowered-sized, raised-sized, side-sized, covered-sized, diagonal-sized, near-sized, radius-sized, Limited, limited, above-zero, side-above}
 
 -- ---- the tests that settings passed, by name
 pub record Accepted (lo hi : List Float) (number : ℕ) (tolerance border side : Float) : Type 0 where

@@ -12,9 +12,9 @@ use lib.Ieee.Exact.{HasValue}
 use lib.Ieee.Fits.{down-pos}
 use lib.Ieee.Nearest.{div-same}
 use borrow.Author.Tests.{eqb-true, eq-eqb}
-use Rattle.basics.specs.Bools.{and-left, and-right, both}
+use Rattle.basics.proofs.Bools.{and-left, and-right, both}
 use Rattle.floats.specs.Tests.{sameBits}
-use Rattle.floats.specs.Order.{eq-left, eq-right, eq-self}
+use Rattle.floats.proofs.Order.{eq-left, eq-right, eq-self}
 
 -- two values with one pattern
 pub same-pattern : (f : Format) (x y : Float) → T (fits f x) → T (fits f y) → toBits f x ≡ toBits f y → x ≡ y

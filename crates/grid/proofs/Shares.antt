@@ -9,13 +9,13 @@ use lib.Dec.{leb, eqb}
 use lib.ListN.{length, take}
 use lib.Ieee.{Float, nan, inf, fin, lt, le, isNan}
 use borrow.Author.Tests.{le-leb}
-use Rattle.basics.specs.Bools.{by-test, both, and-both}
+use Rattle.basics.proofs.Bools.{by-test, both, and-both}
 use Rattle.basics.specs.Lists.{all, zipWith}
 use Rattle.floats.specs.Rounded.{_⊖_, _⊗_, _⊘_, ofNat, truncate}
-use Rattle.floats.specs.Order.{lt-is-not-le, not-lt-le, lt-le, le-self, le-join}
-use Rattle.floats.specs.Upto.{unsigned, share-upto}
+use Rattle.floats.proofs.Order.{lt-is-not-le, not-lt-le, lt-le, le-self, le-join}
+use Rattle.floats.proofs.Upto.{unsigned, share-upto}
 use Rattle.geometry.specs.Position.{dimension}
-use Rattle.geometry.specs.Axes.{entries-of}
+use Rattle.geometry.proofs.Axes.{entries-of}
 use Rattle.geometry.specs.Distances.{from}
 use Rattle.grid.specs.declared.Longest.{Longest}
 use Rattle.grid.specs.Divisions.{counts, divisionsOf, longer, longestFrom, longest, share, shares, numDivisions}
