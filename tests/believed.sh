@@ -3,23 +3,15 @@
 # contracts of the public calls, the claims, and the text that the program writes. It follows every name through the `use`
 # lines to its definition in this repository, and lists each definition that is reached, once, after those that it names,
 # with its number of lines: neither blank, nor a comment, nor an `unfolding`, which only tells the checker what it may open.
-# Types that the code declares are read there; the logic's own names are the kit's.
-# It fails where a definition stands among laws or in proofs/, and where the count is not the one that the pages have.
-#   tests/believed.sh           the list, and the count in its last line
-#   tests/believed.sh --count   the count alone
-#   tests/believed.sh --check   the count, held against README.md and docs/PROOFS.md
+# A type that the code declares is read there, and the names of the logic are the kit's.
+# The last line has the count; with --count there is nothing else.
+# It fails where a definition that is reached stands among laws or in proofs/, and where the count is not the one that
+# README.md and docs/PROOFS.md have.
 set -eu
 unset CDPATH
 cd "$(dirname "$0")/.."
 work=$(mktemp -d)
 trap 'rm -rf "$work"' EXIT
-
-# the claims, by file, and the public calls, with the function of the program that makes its text
-claims='independence/specs/Claims cell_claims/specs/Claims'
-{
-    tests/public.sh --list
-    echo catalogue put_text
-} >"$work/calls"
 
 # Reads crates.txt, the calls, the code, and then every file of definitions and laws.
 cat >"$work/walk" <<'AWK'
@@ -118,7 +110,7 @@ function antt(line,    depth, bare, head, name, sort, d) {
         import(line)
         return
     }
-    if (bare ~ /^(pub mod|infix[lr]?) /)
+    if (bare ~ /^(pub mod|infix[lr]?|unfolding) /)
         return
     # what stands deeper than an item, outside the parameters of a module, belongs to it
     if (item != "" && depth > item_depth) {
@@ -136,8 +128,6 @@ function antt(line,    depth, bare, head, name, sort, d) {
         item = ""
         return
     }
-    if (bare ~ /^unfolding /)
-        return
     head = bare
     sub(/ = .*/, "", head)
     if (head ~ / : / || head ~ / :$/) {
@@ -222,7 +212,7 @@ function meaning(file, word,    k, head) {
     return ""
 }
 
-function follow(file, said,    n, i, into, goal, part, target) {
+function follow(file, said,    n, i, into, goal, part) {
     n = words(said, into)
     for (i = 1; i <= n; i++) {
         goal = meaning(file, into[i])
@@ -231,12 +221,6 @@ function follow(file, said,    n, i, into, goal, part, target) {
         split(goal, part, SUBSEP)
         if (part[1] ~ /\/declared\//) {
             reached[goal] = 0
-            target = part[1]
-            sub(/\/the-variants.*/, "", target)
-            if (!(target in declared)) {
-                declared[target] = 1
-                types++
-            }
             continue
         }
         if (!(goal in sort_of)) {
@@ -358,23 +342,132 @@ END {
                 else if (sort_of[goal] == "law")
                     why = "is a law"
                 else if (file in law)
-                    why = "stands in a file with laws (" law[file] ")"
+                    why = "stands among laws: " law[file]
                 if (why != "") {
                     print "believed: " named[file, k] " of " file ".antt " why >"/dev/stderr"
                     bad = 1
                 }
             }
         }
-    print definitions " definitions, " total " lines"
-    if (show)
-        for (i in declared)
-            print "type " i >"/dev/stderr"
+    print definitions " definitions, " (total < 1000 ? total : sprintf("%d,%03d", total / 1000, total % 1000)) " lines"
     exit bad
 }
 AWK
+
+# walk DIRECTORY SHOW CALLS CLAIMS: the calls are in a file, a crate and a name to a line; the claims are files of definitions
+walk() {
+    (cd "$1" && awk -v show="$2" -v claims="$4" -f "$work/walk" crates.txt "$3" \
+        crates/*/src/*.rt crates/*/specs/*.antt crates/*/proofs/*.antt)
+}
+
+# What this looks at, on an example.
+mkdir -p "$work"/example/crates/low/src "$work"/example/crates/low/specs "$work"/example/crates/low/proofs \
+    "$work"/example/crates/high/src "$work"/example/crates/high/specs "$work"/example/crates/high/proofs
+(
+    cd "$work/example"
+    cat >crates.txt <<'END'
+high: low
+low:
+END
+    cat >crates/low/specs/Numbers.antt <<'END'
+-- Not counted.
+use Prim.Native.Nat.{ℕ, _+_}
+use Rattle.low.specs.declared.Pair.{Pair}
+infixl 6 _⊞_
+abbrev pub _⊞_ : ℕ → ℕ → ℕ
+x ⊞ y = x + y
+
+pub data Way : Type 0 where
+  up : ℕ → Way
+  -- and back
+  down : Way
+
+unfoldable pub unused : ℕ
+unused = 0
+
+module _ (w : Way) (p : Pair) where
+  unfoldable pub turned : ℕ
+  unfolding go
+  turned = go w
+    where
+      go : Way → ℕ
+      go (up n) = n ⊞ 1
+
+      go down = 0
+END
+    cat >crates/low/specs/Mixed.antt <<'END'
+use Rattle.low.specs.Numbers.{Way, turned}
+abbrev pub mixed : Way → ℕ
+mixed w = turned w w
+
+pub law : (w : Way) → mixed w ≡ 0
+law w = refl
+END
+    cat >crates/low/proofs/Apart.antt <<'END'
+abbrev pub apart : ℕ
+apart = 1
+END
+    cat >crates/high/specs/Claims.antt <<'END'
+use Rattle.low.specs.Numbers.{down as back}
+use Rattle.low.specs.Mixed.{mixed as both}
+pub record Claim : Type 0 where
+  pub is : both back ≡ 0
+END
+    cat >crates/high/proofs/Nothing.antt <<'END'
+END
+    cat >crates/high/src/lib.rt <<'END'
+ghost use Rattle.low.specs.Numbers.{_⊞_, unused};
+ghost use Rattle.low.proofs.Apart.{apart};
+// pub fn shown() ensures { unused }
+fn hidden() -> u64
+    ensures { λ r. ⌜ r ≡ unused ⌝ }
+{
+    0
+}
+pub fn shown(x: u64) -> u64
+    ensures { λ r. ⌜ r ≡ x ⊞ 1 ⌝ }
+    ensures { λ r. ⌜ (r .apart) ≡ record { x = apart } ⌝ }
+{
+    unused
+}
+END
+    cat >crates/low/src/lib.rt <<'END'
+END
+    echo high shown >calls
+)
+cat >"$work/expected" <<'END'
+believed: mixed of low/specs/Mixed.antt stands among laws: law
+believed: apart of low/proofs/Apart.antt stands in proofs/
+low/specs/Numbers.antt
+     2 _⊞_
+     3 Way
+     6 turned
+low/specs/Mixed.antt
+     2 mixed
+low/proofs/Apart.antt
+     2 apart
+high/specs/Claims.antt
+     2 Claim
+6 definitions, 17 lines
+END
+{ walk "$work/example" 1 calls high/specs/Claims 2>&1 && echo "nothing is wrong"; } | LC_ALL=C sort >"$work/found"
+LC_ALL=C sort "$work/expected" | diff - "$work/found" || {
+    echo "believed: an example is read otherwise" && exit 1
+}
+
+# The public calls, and the function that makes the program's text.
+tests/public.sh --list >"$work/calls"
+echo catalogue put_text >>"$work/calls"
 show=1
-case ${1:-} in --count | --check) show=0 ;; esac
+[ "${1:-}" != --count ] || show=0
 failed=0
-awk -v show="$show" -v claims="$claims" -f "$work/walk" crates.txt "$work/calls" \
-    crates/*/src/*.rt crates/*/specs/*.antt crates/*/proofs/*.antt || failed=1
+walk . "$show" "$work/calls" 'independence/specs/Claims cell_claims/specs/Claims' >"$work/list" || failed=1
+count=$(tail -n 1 "$work/list")
+[ "$show" -eq 1 ] && for page in README.md docs/PROOFS.md; do
+    said=$(tr -s '\n ' '  ' <$page | grep -oE '[0-9,]+ definitions, [0-9,]+ lines') || :
+    [ "$said" = "$count" ] || {
+        echo "believed: $page has: ${said:-nothing}" && failed=1
+    }
+done
+cat "$work/list"
 exit $failed

@@ -25,6 +25,17 @@ module _ {A : Type 0} where
   tab zero f = []
   tab (suc n) f = f zero ∷ tab n (λ i. f (suc i))
 
+  -- from the left: f (f (f a x) y) z
+  unfoldable pub foldFrom : (A → A → A) → A → List A → A
+  foldFrom f a [] = a
+  foldFrom f a (x ∷ xs) = foldFrom f (f a x) xs
+
+  -- the same with nothing in front of the first entry; d where there is none
+  unfoldable pub foldAll : (A → A → A) → A → List A → A
+  unfolding foldFrom
+  foldAll f d [] = d
+  foldAll f d (x ∷ xs) = foldFrom f x xs
+
   -- the new entries, and the old ones past them: what a lent list holds once its front is written
   unfoldable pub over : List A → List A → List A
   over new old = new ++ drop (length new) old

@@ -26,7 +26,7 @@ use Rattle.floats.proofs.Upto.{Upto, upto-more, unsigned-above, sub-unsigned, r
 use Rattle.grid.specs.Divisions.{division}
 use Rattle.grid.proofs.Bounds.{first-of, rest-of}
 use Rattle.grid_search.specs.Sheet.{coveredOf}
-use Rattle.grid_search.proofs.Sizes.{Sized}
+use Rattle.grid_search.proofs.Sizes.{AllUpto}
 use Rattle.grid_cells.specs.Build.{cellDivisions}
 
 -- ---- values from 0 on, and from 2 ^ -19 on
@@ -218,8 +218,8 @@ reach (fin s m e) (fin false (suc p) f) (suc (suc k)) u v h q a b =
     (nat-upto (suc (suc k)) (omega arith))
 
 -- ---- the high corner of the containers
-pub covered-bounded : (side : Float) (xmin xmax : List Float) → Upto 2099200 side → le (pow2⁻ 19) side ≡ true → Sized 1049600 xmin → Sized 1049600 xmax
-    → all division (cellDivisions side xmin xmax) ≡ true → Sized 5248000 (coveredOf side xmin (cellDivisions side xmin xmax))
+pub covered-bounded : (side : Float) (xmin xmax : List Float) → Upto 2099200 side → le (pow2⁻ 19) side ≡ true → AllUpto 1049600 xmin → AllUpto 1049600 xmax
+    → all division (cellDivisions side xmin xmax) ≡ true → AllUpto 5248000 (coveredOf side xmin (cellDivisions side xmin xmax))
 unfolding cellDivisions coveredOf zipWith
 covered-bounded side [] [] u h a b d = tt
 covered-bounded side [] (y ∷ ys) u h a b d = tt

@@ -17,7 +17,7 @@ use borrow.Author.Tests.{ltb-false, eq-eqb}
 use Rattle.basics.proofs.Bools.{by-test}
 use Rattle.floats.specs.Rounded.{_⊕_, zeroF}
 use Rattle.floats.specs.Tests.{finite}
-use Rattle.floats.proofs.Held.{held}
+use Rattle.floats.proofs.Held.{fits-held}
 use Rattle.floats.proofs.Exact.{in-units}
 use Rattle.floats.proofs.Unique.{value-unique}
 use Rattle.floats.proofs.Order.{le-cross, le-join}
@@ -30,7 +30,7 @@ own s zero e h =
     (round-exact binary64 s (0 * up e) (down e) 0 0 (down-pos e) (pow-pos 53) (pow-pos (1074 + 1024)) (ap (λ (z : ℕ). z * 2 ^ 1074) (zero-mul (up e)) ∙ zero-mul (2 ^ 1074) ∙ sym (zero-mul (down e))))
     (refl, refl)
 own s (suc m) e h =
-    let k = held binary64 s m e h in
+    let k = fits-held binary64 s m e h in
     let u = in-units 1074 (suc m) e (k .deep) in
     value-unique binary64 (round binary64 s (suc m * up e) (down e)) (fin s (suc m) e) s (suc m * up e) (down e) (down-pos e) (round-fits binary64 s (suc m * up e) (down e)) h
     (round-exact binary64 s (suc m * up e) (down e) (suc m) (u .0) (down-pos e) (k .digits) (below-top (suc m * 2 ^ u .0) (suc m * up e) (down e) (down-pos e) (u .1) (k .bound)) (u .1))

@@ -15,12 +15,6 @@ abs-abs nan = refl
 abs-abs (inf s) = refl
 abs-abs (fin s m e) = refl
 
-pub abs-neg : (x : Float) → absOf (neg x) ≡ absOf x
-unfolding absOf neg
-abs-neg nan = refl
-abs-neg (inf s) = refl
-abs-neg (fin s m e) = refl
-
 -- ---- the smaller of two is one of them, and above neither
 module _ (a b : Float) where
   pub min-either : (minOf a b ≡ a) ⊎ (minOf a b ≡ b)

@@ -15,7 +15,7 @@ use lib.Ieee.Fits.{two, two-le-pos}
 use lib.Ieee.Exact.{HasValue, odd-sign}
 use lib.Ieee.Positive.{positive}
 use Rattle.floats.specs.Sqrt.{sqrtIn}
-use Rattle.floats.proofs.Held.{held}
+use Rattle.floats.proofs.Held.{fits-held}
 use Rattle.floats.proofs.Near.{Near, square-suc, square-odd, root-near, sqrt-value}
 
 -- y, which is q * 2 ^ k units of 2 ^ -l, is nearest to the root of x, which is n units. The root itself is √(n * 2 ^ l) units.
@@ -212,4 +212,4 @@ sqrt-nearest f nan h p = absurd p
 sqrt-nearest f (inf s) h p = absurd p
 sqrt-nearest f (fin true m e) h p = absurd p
 sqrt-nearest f (fin false zero e) h p = absurd (lt-irrefl 0 (ltb→lt 0 0 p))
-sqrt-nearest f (fin false (suc m) e) h p = let g = held f false m e h in at-value f (suc m) e (zero-lt-suc m) (g .digits) (g .deep)
+sqrt-nearest f (fin false (suc m) e) h p = let g = fits-held f false m e h in at-value f (suc m) e (zero-lt-suc m) (g .digits) (g .deep)

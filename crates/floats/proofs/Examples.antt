@@ -1,11 +1,13 @@
 -- Values that the definitions of rounding up and of the root compute to.
 -- Assumes nothing.
 use mathlib.Core.Path.{_≡_, refl}
-use mathlib.Core.Bool.{true, false}
+use mathlib.Core.Bool.{Bool, true, false}
 use lib.IntN.{pos, negsuc}
 use lib.Ieee.{nan, fin, binary64, ofBits, toBits}
+use mathlib.Core.List.{List, [], _∷_}
 use Rattle.floats.specs.Ceil.{ceilOf}
 use Rattle.floats.specs.Sqrt.{sqrtOf}
+use Rattle.floats.proofs.Nearer.{nearerRoot}
 
 -- ---- rounding up: 2.5, -2.5, 2, -0.5, +0, the smallest, 2 ^ 100
 ceil-2·5 : ceilOf (fin false 5 (negsuc 0)) ≡ fin false 3 (pos 0)
@@ -71,3 +73,18 @@ sqrt-minus-zero = refl
 sqrt-minus-one : sqrtOf (fin true 1 (pos 0)) ≡ nan
 unfolding sqrtOf
 sqrt-minus-one = refl
+
+-- ---- the test whether a value is nearer: of the root of 2 and the values just above and just below it it tells that the root is nearer than the one below
+nearer-2 : List Bool
+unfolding nearerRoot sqrtOf ofBits
+nearer-2 =
+    let two = fin false 1 (pos 1) in
+    let root = sqrtOf two in
+    nearerRoot two root (ofBits binary64 0x3FF6_A09E_667F_3BCE)
+    ∷ nearerRoot two root (ofBits binary64 0x3FF6_A09E_667F_3BCC)
+    ∷ nearerRoot two (ofBits binary64 0x3FF6_A09E_667F_3BCC) root
+    ∷ []
+
+only-the-last : nearer-2 ≡ false ∷ false ∷ true ∷ []
+unfolding nearer-2
+only-the-last = refl

@@ -33,11 +33,6 @@ halves a b =
     let A = a * 2 ^ 27 in
     omega (arith, add-mul A b (A + b), mul-add A A b, mul-add b A b, mul-mul-mul-comm a (2 ^ 27) a (2 ^ 27), mul-right-comm a (2 ^ 27) b, mul-comm b A)
 
-square-of : (q : ℕ) → q * q ≡ q / 2 ^ 27 * (q / 2 ^ 27) * 2 ^ 54 + q / 2 ^ 27 * (q % 2 ^ 27) * 2 ^ 28 + q % 2 ^ 27 * (q % 2 ^ 27)
-square-of q =
-    let e : q ≡ q / 2 ^ 27 * 2 ^ 27 + q % 2 ^ 27 = omega arith in
-    ap (λ (x : ℕ). x * x) e ∙ halves (q / 2 ^ 27) (q % 2 ^ 27)
-
 -- the code's f
 pub f-is : (s q a b : ℕ) → a ≡ q / 2 ^ 27 → b ≡ q % 2 ^ 27 → a * a * 4 ≤ s + 8 → a * b ≤ (s + 8 - a * a * 4) * 2 ^ 24 → b * b ≤ ((s + 8 - a * a * 4) * 2 ^ 24 - a * b) * 2 ^ 28 + q
     → ((s + 8 - a * a * 4) * 2 ^ 24 - a * b) * 2 ^ 28 + q - b * b + q * q ≡ s * 2 ^ 52 + q + 2 ^ 55

@@ -9,10 +9,10 @@ use Rattle.floats.specs.Rounded.{zeroF, pow2⁻}
 use Rattle.grid_search.specs.declared.GivenU64.the-variants as number
 use Rattle.grid_search.specs.declared.GivenF64.the-variants as float
 use Rattle.grid_search.specs.Sheet.{newSheet, sheetOk}
-use Rattle.grid_search.specs.Examples.{lowCorner, highCorner, S}
+use Rattle.grid_search.specs.Examples.{lowOfS, highOfS, S}
 
 -- S is the sheet that these settings give, and it is good
-pub S-made : newSheet lowCorner highCorner (number.Given 8) (float.Given (pow2⁻ 9)) (float.Given zeroF) ≡ success S
+pub S-made : newSheet lowOfS highOfS (number.Given 8) (float.Given (pow2⁻ 9)) (float.Given zeroF) ≡ success S
 unfolding newSheet S add sub mul div ofInt toUnsigned within
 S-made = refl
 

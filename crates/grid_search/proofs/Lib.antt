@@ -1,7 +1,7 @@
 -- Laws of the sheet, for the proofs here and in the layers above.
 pub mod Laws
 pub mod Sizes
-pub mod Sound
+pub mod Settings
 pub mod Good
 pub mod Remade
 pub mod Examples

@@ -24,11 +24,11 @@ keyNumber (Key k) = k .0
 keyNumber Exceeds = 2 ^ 64 - 2
 
 -- and the largest one where there is no such grid
-unfoldable pub keyIn : ℕ → Divisions → Float → Position → Position → ℕ
+unfoldable pub keyProbed : ℕ → Divisions → Float → Position → Position → ℕ
 unfolding isGrid located
-keyIn n d side xmin x = cond (isGrid n d) (keyNumber (located (counts n d) side (coords n xmin) (coords n x))) (2 ^ 64 - 1)
+keyProbed n d side xmin x = cond (isGrid n d) (keyNumber (located (counts n d) side (coords n xmin) (coords n x))) (2 ^ 64 - 1)
 
 -- the centre of a container; what was there, where there is no such container
-unfoldable pub centreIn : ℕ → Divisions → Float → Position → ℕ → Position → Position
+unfoldable pub centreProbed : ℕ → Divisions → Float → Position → ℕ → Position → Position
 unfolding isGrid containers centre pivots
-centreIn n d side xmin key old = cond (isGrid n d && ltb key (containers (counts n d))) (positionOf (centre side (coords n xmin) (pivots (counts n d) key))) old
+centreProbed n d side xmin key old = cond (isGrid n d && ltb key (containers (counts n d))) (positionOf (centre side (coords n xmin) (pivots (counts n d) key))) old
