@@ -16,8 +16,9 @@ use Rattle.basics.proofs.Refusals.{unrefused, fault-stop, fault-right, code-som
 use Rattle.grid.specs.Divisions.{counts}
 use Rattle.grid_search.specs.declared.GridSearch.{GridSearch}
 use Rattle.table.specs.Rows.{slotsOf}
-use Rattle.table.proofs.Stores.{slots-rows}
-use Rattle.rows.specs.Library.{Library, library, table, tooLong, space, libraryTests}
+use Rattle.table.proofs.Libraries.{slots-rows}
+use Rattle.table.specs.Library.{Library, library, table, tooLong, space}
+use Rattle.rows.specs.Damage.{libraryTests}
 use Rattle.display.specs.Lent.{lent}
 use Rattle.display.specs.declared.Shown.the-variants.{Length, Refused}
 use Rattle.display.specs.Display.{slotsText, displayText, displayTests, showing, Shows}

@@ -15,7 +15,8 @@ use Rattle.basics.proofs.Bools.{by-test, clash, both, and-left, and-right}
 use Rattle.basics.specs.Lists.{all, keep, tab, enter}
 use Rattle.basics.proofs.Lists.{length-tab, getD-tab, drop-tab, tab-take, map-tab, map-take, map-drop}
 use Rattle.display.proofs.Kept.{all-by, all-weaker, keep-append, keep-all, keep-none}
-use Rattle.table.specs.Rows.{Slot, slotAt, slotsOf, before, chain, sorted, Ordered}
+use Rattle.table.specs.Rows.{Slot, slotAt, slotsOf, before, chain, sorted}
+use Rattle.table.specs.Posts.{Ordered}
 use Rattle.table.proofs.Order.{chain-sorted, sorted-at}
 use Rattle.sorting.specs.Sorted.{distinct}
 use Rattle.display.specs.Posts.{Run}

@@ -23,8 +23,8 @@ use Rattle.grid_search.specs.declared.GivenF64.the-variants as float
 use Rattle.grid_search.specs.Sheet.{newSheet}
 use Rattle.grid_search.specs.Examples.{S, lowOfS, highOfS}
 use Rattle.table.specs.Rows.{keyIn, before, same, chain, putRow}
-use Rattle.rows.specs.Library.{Library, Turn, table}
-use Rattle.rows.specs.Insert.{containerOf, insertion}
+use Rattle.table.specs.Library.{Library, table}
+use Rattle.rows.specs.Insert.{Turn, containerOf, insertion}
 use Rattle.search.specs.Search.{searchAnswer}
 
 -- what a line states: floats, numbers, a test's outcome, or a refusal

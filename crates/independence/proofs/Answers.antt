@@ -18,8 +18,9 @@ use Rattle.basics.proofs.Refusals.{fault-left, fault-right, fault-stop}
 use Rattle.grid_search.specs.declared.GridSearch.{GridSearch}
 use Rattle.table.specs.declared.Row.{Row}
 use Rattle.table.specs.Rows.{idIn}
-use Rattle.rows.specs.Library.{Library, table, libraryTests}
-use Rattle.search.specs.Search.{nearRows, lowest, searchTests, searchAnswer}
+use Rattle.table.specs.Library.{Library, table}
+use Rattle.rows.specs.Damage.{libraryTests}
+use Rattle.search.specs.Search.{nearRows, lowest, chosen, searchTests, searchAnswer}
 use Rattle.listing.specs.declared.Filter.{Filter}
 use Rattle.sorting.specs.Ascent.{ascending}
 use Rattle.listing.specs.Place.{Asked, isOn, placeTests}
@@ -27,7 +28,7 @@ use Rattle.listing.specs.Listing.{Listing, idsOn, onTests, listingTests, listOu
 use Rattle.independence.specs.Run.{isNone}
 use Rattle.independence.specs.Queries.{pass, holds, near, on}
 use Rattle.independence.specs.Claims.{Finding, Writing}
-use Rattle.independence.proofs.Lists.{used-length}
+use Rattle.table.proofs.Libraries.{length-table}
 use Rattle.independence.proofs.Ids.{ids-ascend, ids-no-more}
 use Rattle.independence.proofs.Damage.{clean, clean-fault}
 
@@ -84,7 +85,7 @@ lowest-is (r ∷ rows) = go (lowest rows) refl (lowest-is rows)
 -- ---- search
 
 search-is : (s : GridSearch) (l : Library) (x : List Float) → searchAnswer s l x ≡ answer (fault (searchTests s l x)) (lowest (nearRows s x (table l)))
-unfolding searchAnswer
+unfolding searchAnswer chosen
 search-is s l x = refl
 
 near-is : (s : GridSearch) (l : Library) (x : List Float) (i : ℕ) → near s l x i ≡ (pass (searchTests s l x) && holds i (nearRows s x (table l)))
@@ -202,7 +203,7 @@ module _ (s : GridSearch) (l : Library) (p : Asked) (f : Filter) (lent : List �
 
   listed-no-more : length (idsOn s l p f) ≤ l .used
   unfolding idsOn
-  listed-no-more = omega (arith, ids-no-more (isOn s p f) (table l), used-length l)
+  listed-no-more = omega (arith, ids-no-more (isOn s p f) (table l), length-table l)
 
   no-14 : clean short (onTests s l p f) ≡ true
   unfolding clean all short onTests libraryTests placeTests

@@ -15,7 +15,7 @@ use Rattle.grid_search.specs.declared.GivenF64.the-variants as float
 use Rattle.grid_search.specs.declared.GridSearch.{GridSearch}
 use Rattle.grid_search.specs.Sheet.{sheetFrom}
 use Rattle.table.specs.Rows.{keyIn, before, same}
-use Rattle.rows.specs.Library.{Library, table}
+use Rattle.table.specs.Library.{Library, table}
 use Rattle.listing.specs.declared.Filter.the-variants.{Everything}
 use Rattle.listing.specs.Place.{Asked, line}
 use Rattle.independence.specs.Run.{Change, insert, Call, change, search, list, inserted, found, listed, run, replies}

@@ -20,8 +20,8 @@ use Rattle.grid.specs.Divisions.{counts}
 use Rattle.grid.specs.Containers.{containers}
 use Rattle.grid_search.specs.declared.GridSearch.{GridSearch}
 use Rattle.table.specs.declared.Row.{Row}
-use Rattle.table.specs.Rows.{rowAt, rowsOf}
-use Rattle.rows.specs.Library.{Library, library, table, space, tooLong, fits, goodRow, libraryTests}
+use Rattle.table.specs.Library.{rowAt, rowsOf, Library, library, table, space, tooLong, fits}
+use Rattle.rows.specs.Damage.{goodRow, libraryTests}
 use Rattle.rows.proofs.Check.{Whole, whole, numbered, checked, divided}
 use Rattle.listing.specs.declared.Place.{Place}
 use Rattle.listing.specs.declared.Filter.{Filter}

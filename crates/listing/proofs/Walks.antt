@@ -19,7 +19,8 @@ use Rattle.geometry.specs.declared.Position.{Position}
 use Rattle.geometry.specs.Position.{coords}
 use Rattle.grid_search.specs.declared.GridSearch.{GridSearch}
 use Rattle.table.specs.declared.Row.{Row}
-use Rattle.table.specs.Rows.{rowAt, rowsOf, keyIn, idIn}
+use Rattle.table.specs.Rows.{keyIn, idIn}
+use Rattle.table.specs.Library.{rowAt, rowsOf}
 use Rattle.sorting.specs.Sorted.{distinct}
 use Rattle.sorting.specs.Posts.{within, Below}
 use Rattle.sorting.proofs.Mixes.{getD-map}
