@@ -31,9 +31,9 @@ unfolding distinct
 idsIn slots = distinct (map (λ (p : Slot). p .id) slots)
 
 -- those of one container
-unfoldable pub within : ℕ → List Slot → List Slot
+unfoldable pub inContainer : ℕ → List Slot → List Slot
 unfolding keep
-within k slots = keep (λ (p : Slot). eqb (p .key) k) slots
+inContainer k slots = keep (λ (p : Slot). eqb (p .key) k) slots
 
 -- ---- lines
 
@@ -44,9 +44,9 @@ line k ids = decimal k ++ (ascii ": " ++ (listText ids ++ ascii "\n"))
 
 -- the lines of these containers
 unfoldable pub linesOf : List Slot → List ℕ → List ℕ
-unfolding line idsIn within
+unfolding line idsIn inContainer
 linesOf slots [] = []
-linesOf slots (k ∷ ks) = line k (idsIn (within k slots)) ++ linesOf slots ks
+linesOf slots (k ∷ ks) = line k (idsIn (inContainer k slots)) ++ linesOf slots ks
 
 -- a line of the summary, as `nitem = 2`
 unfoldable pub named : List ℕ → List ℕ → List ℕ
@@ -70,11 +70,6 @@ slotsText divisions slots = linesOf slots (keysIn slots) ++ summary slots divisi
 unfoldable pub displayText : GridSearch → List Row → List ℕ
 unfolding slotsText
 displayText s rows = slotsText (counts (s .ndim) (s .ndiv)) (map slotOf rows)
-
--- what a program prints where a call is turned away, as `refused 13`
-unfoldable pub refusal : ℕ → List ℕ
-unfolding decimal
-refusal n = ascii "refused " ++ (decimal n ++ ascii "\n")
 
 -- ---- the call: 24, 13, and 14 where the buffer is shorter than the text
 

@@ -2,4 +2,3 @@
 pub mod Lent
 pub mod Display
 pub mod Posts
-pub mod Examples

@@ -1,7 +1,7 @@
--- `printing::print_hexadecimal` is safe and ends: the unit is the measure. Assumes nothing.
+-- `positions::printing::print_hexadecimal` is safe and ends: the unit is the measure. Assumes nothing.
 use borrow.Author.Needs.{needs}
-use Rattle.printing.proofs.print_hexadecimal.Statement.{statement}
-use Rattle.printing.proofs.print_hexadecimal.Tie as tie
+use Rattle.positions.proofs.printing.print_hexadecimal.Statement.{statement}
+use Rattle.positions.proofs.printing.print_hexadecimal.Tie as tie
 
 abbrev Inv-loop : tie.InvT-loop
 Inv-loop n digits unit₀ unit = Unit {0}

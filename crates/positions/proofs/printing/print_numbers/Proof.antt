@@ -1,9 +1,9 @@
--- `printing::print_numbers` is safe and ends: the entries left are the measure. Assumes nothing.
+-- `positions::printing::print_numbers` is safe and ends: the entries left are the measure. Assumes nothing.
 use borrow.Author.Needs.{needs}
 use Prim.Native.Nat.{_-_}
 use lib.ListN.{length}
-use Rattle.printing.proofs.print_numbers.Statement.{statement}
-use Rattle.printing.proofs.print_numbers.Tie as tie
+use Rattle.positions.proofs.printing.print_numbers.Statement.{statement}
+use Rattle.positions.proofs.printing.print_numbers.Tie as tie
 
 abbrev Inv-loop : tie.InvT-loop
 Inv-loop numbers count i₀ left₀ t5 i left = Unit {0}

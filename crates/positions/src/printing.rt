@@ -1,4 +1,4 @@
-// Values on standard output, for the programs.
+// Values on standard output.
 
 // Sixteen hexadecimal digits.
 fn print_hexadecimal(n: u64) {

@@ -1,7 +1,7 @@
 -- The definitions on a few numbers, evaluated.
 use mathlib.Core.Path.{_≡_, refl}
 use mathlib.Core.List.{List, [], _∷_}
-use Rattle.text.specs.Text.{ascii, decimal, listText}
+use Rattle.text.specs.Text.{ascii, decimal, listText, refusal}
 
 zero-alone : decimal 0 ≡ ascii "0"
 unfolding decimal
@@ -22,3 +22,11 @@ two = refl
 none : listText [] ≡ ascii "[]"
 unfolding listText
 none = refl
+
+refused-alone : refusal (13 ∷ []) ≡ ascii "refused 13\n"
+unfolding refusal
+refused-alone = refl
+
+refused-with : refusal (27 ∷ 4 ∷ []) ≡ ascii "refused 27 4\n"
+unfolding refusal
+refused-with = refl

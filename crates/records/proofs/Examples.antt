@@ -5,7 +5,7 @@ use mathlib.Core.Bool.{false}
 use mathlib.Core.List.{List, [], _∷_, _++_}
 use lib.IntN.{pos, negsuc}
 use lib.Ieee.{fin, binary64, round, nan}
-use Rattle.records.specs.Records.{recordAt, recordBytes, floatAt}
+use Rattle.records.specs.Records.{recordAt, floatAt}
 
 seven : List ℕ
 seven =
@@ -17,10 +17,6 @@ seven =
 read : recordAt seven 0 ≡ record { id = 7; x = round binary64 false 200005 100000; y = fin false 1 (negsuc 0); z = fin false 0 (pos 0) }
 unfolding recordAt seven round
 read = refl
-
-back : recordBytes (recordAt seven 0) ≡ seven
-unfolding recordBytes recordAt seven
-back = refl
 
 -- a NaN's pattern
 none : floatAt (1 ∷ 0 ∷ 0 ∷ 0 ∷ 0 ∷ 0 ∷ 0xf0 ∷ 0xff ∷ []) 0 ≡ nan

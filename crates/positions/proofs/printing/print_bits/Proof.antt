@@ -1,11 +1,11 @@
--- `printing::print_bits` is safe and ends: what equals itself is no NaN. Assumes nothing.
+-- `positions::printing::print_bits` is safe and ends: what equals itself is no NaN. Assumes nothing.
 use mathlib.Core.Path.{sym, subst}
 use mathlib.Core.Bool.{Bool, not}
 use lib.Dec.{T}
 use Rattle.floats.specs.Order.{eq-left}
 use borrow.Author.Needs.{needs}
-use Rattle.printing.proofs.print_bits.Statement.{statement}
-use Rattle.printing.proofs.print_bits.Tie as tie
+use Rattle.positions.proofs.printing.print_bits.Statement.{statement}
+use Rattle.positions.proofs.printing.print_bits.Tie as tie
 
 float-to-bits-bits : tie.Need-float-to-bits-bits
 float-to-bits-bits c = subst (λ (b : Bool). T (not b)) (sym (eq-left _ _ (c .if1 .taken))) tt
