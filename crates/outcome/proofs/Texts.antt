@@ -16,34 +16,19 @@ use Rattle.basics.specs.Refusals.{Test, refuse, fault, refused, success, fault-
 use Rattle.grid_search.specs.declared.GridSearch.{GridSearch}
 use Rattle.rows.specs.Library.{Library, library, table, libraryTests}
 use Rattle.rows.proofs.Check.{whole, whole-sound, divided}
-use Rattle.text.specs.Text.{Put}
-use Rattle.text.proofs.Laws.{put-over, decimal-20}
+use Rattle.text.specs.Text.{refusal, Put, Front}
+use Rattle.text.proofs.Laws.{over-front, put-front, refusal-short}
 use Rattle.display.specs.declared.Shown.{Shown}
 use Rattle.display.specs.declared.Shown.the-variants.{Length, Refused}
 use Rattle.display.specs.Lent.{Lent, lent}
-use Rattle.display.specs.Display.{displayText, displayTests, refusal, showing, Shows}
+use Rattle.display.specs.Display.{displayText, displayTests, showing, Shows}
 use Rattle.display.proofs.Answers.{few, text-of-slots}
 use Rattle.display.proofs.Bounds.{whole-most}
-use Rattle.display.proofs.Texts.{refusal-length}
 use Rattle.outcome.specs.Outcome.{textOr, libraryText}
 
--- the first r entries are the text, and r is their number
-abbrev pub Front : List ℕ → List ℕ → ℕ → Type 0
-Front text exit r = ((r ≤ length exit) × (r ≡ length (take r exit))) × (take r exit ≡ text)
-
-pub over-front : (text entry exit : List ℕ) (r : ℕ) → exit ≡ over text entry → r ≡ length text → Front text exit r
-unfolding over
-over-front text entry exit r e n =
-    let front : take r exit ≡ text = rw (e, n) (take-append-seam text (drop (length text) entry)) in
-    let long : length exit ≡ length text + length (drop (length text) entry) = rw e (length-append text (drop (length text) entry)) in
-    ((omega (arith, n, long), n ∙ sym (ap length front)), front)
-
-pub put-front : {text entry exit : List ℕ} {r : ℕ} → Put text entry 0 exit r → length text ≤ length entry → Front text exit r
-put-front {text} {entry} {exit} {r} p h = over-front text entry exit r (put-over p h) (omega (arith, p .past))
-
 -- a refusal's line is short
-pub refusal-front : (n : ℕ) {entry exit : List ℕ} {r : ℕ} → Put (refusal n) entry 0 exit r → n < 2 ^ 64 → 29 ≤ length entry → Front (refusal n) exit r
-refusal-front n p h room = put-front p (omega (arith, refusal-length n, decimal-20 n h))
+pub refusal-front : (n : ℕ) {entry exit : List ℕ} {r : ℕ} → Put (refusal (n ∷ [])) entry 0 exit r → n < 2 ^ 64 → 29 ≤ length entry → Front (refusal (n ∷ [])) exit r
+refusal-front n p h room = put-front p (omega (arith, refusal-short n h))
 
 module _ (s : GridSearch) (l : Library) (buffer exit : List ℕ) where
   abbrev text : List ℕ
@@ -82,7 +67,7 @@ module _ (s : GridSearch) (l : Library) (buffer exit : List ℕ) where
   damaged (some m) n e fits f = sym (fault-stop (libraryTests s l) room m e) ∙ f
 
   -- a refusal, where the text would fit: that of a library that is damaged
-  pub shown-refused : (n : ℕ) → (fault (libraryTests s l) ≡ none → length text ≤ length buffer) → Shows (showing s l buffer) (Refused n) exit → libraryText s l ≡ refusal n
+  pub shown-refused : (n : ℕ) → (fault (libraryTests s l) ≡ none → length text ≤ length buffer) → Shows (showing s l buffer) (Refused n) exit → libraryText s l ≡ refusal (n ∷ [])
   unfolding showing displayTests libraryText textOr
   shown-refused n fits h = rw (damaged (fault (libraryTests s l)) n refl fits (lent-refused (fault (displayTests s l (length buffer))) n (h .answers)))
 

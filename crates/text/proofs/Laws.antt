@@ -15,7 +15,7 @@ use mathlib.Core.Logic.{_⊎_, inl, inr}
 use Rattle.basics.specs.Bools.{which, by-test}
 use Rattle.basics.specs.Lists.{over}
 use Rattle.basics.specs.Stores.{sets-append, sets-front}
-use Rattle.text.specs.Text.{ascii, digit, decimalDigits, decimal, entryText, entries, listText, refusal, Put}
+use Rattle.text.specs.Text.{ascii, digit, decimalDigits, decimal, entryText, entries, listText, refusal, Put, Front}
 
 -- ---- texts in a buffer
 
@@ -37,9 +37,15 @@ pub put-over : {a l l′ : List ℕ} {next : ℕ} → Put a l 0 l′ next → le
 unfolding over
 put-over {a} {l} p h = p .stands ∙ sets-front a l h
 
-pub put-take : {a l l′ : List ℕ} {next : ℕ} → Put a l 0 l′ next → length a ≤ length l → take next l′ ≡ a
+pub over-front : (text entry exit : List ℕ) (r : ℕ) → exit ≡ over text entry → r ≡ length text → Front text exit r
 unfolding over
-put-take {a} {l} p h = rw (p .past, zero-add, put-over p h) (take-append-seam a (drop (length a) l))
+over-front text entry exit r e n =
+    let front : take r exit ≡ text = rw (e, n) (take-append-seam text (drop (length text) entry)) in
+    let long : length exit ≡ length text + length (drop (length text) entry) = rw e (length-append text (drop (length text) entry)) in
+    ((omega (arith, n, long), n ∙ sym (ap length front)), front)
+
+pub put-front : {text entry exit : List ℕ} {r : ℕ} → Put text entry 0 exit r → length text ≤ length entry → Front text exit r
+put-front {text} {entry} {exit} {r} p h = over-front text entry exit r (put-over p h) (omega (arith, p .past))
 
 -- A text that is being put: what is left of it makes of the buffer as it is now what the whole makes of the buffer at the start.
 pub record Left (text l : List ℕ) (at : ℕ) (l′ : List ℕ) (next : ℕ) (left : List ℕ) : Type 0 where

@@ -1,6 +1,6 @@
 -- Text as the list of its bytes, in ASCII, and what a buffer holds once a text was put into it.
 -- Assumes nothing.
-use Prim.Native.Nat.{ℕ, zero, suc, _+_, _/_, _%_}
+use Prim.Native.Nat.{ℕ, zero, suc, _+_, _/_, _%_, _≤_}
 use Prim.Native.Char.{code}
 use Prim.Native.String.{String}
 use Prim.Native.String as string
@@ -8,7 +8,7 @@ use mathlib.Core.Path.{_≡_}
 use mathlib.Core.Bool.{Bool, true, false}
 use mathlib.Core.List.{List, [], _∷_, _++_}
 use lib.Dec.{ltb}
-use lib.ListN.{length}
+use lib.ListN.{length, take}
 use lib.Seq.{sets}
 
 -- the bytes of a text that is written out here
@@ -66,3 +66,8 @@ refusal ns = ascii "refused " ++ (entries (ascii " ") 0 ns ++ ascii "\n")
 pub record Put (text entry : List ℕ) (at : ℕ) (exit : List ℕ) (next : ℕ) : Type 0 where
   pub stands : exit ≡ sets entry at text
   pub past : next ≡ at + length text
+
+-- A text that stands at the front of a buffer, and its length r. The second of the three follows from the others: it is stated so
+-- that the proof of `&buffer[..r]` finds it.
+abbrev pub Front : List ℕ → List ℕ → ℕ → Type 0
+Front text exit r = ((r ≤ length exit) × (r ≡ length (take r exit))) × (take r exit ≡ text)
