@@ -1,6 +1,4 @@
--- What every layer's definitions share: tests, lists, and the refusals in their order.
-pub mod Bools
+-- What every layer's definitions share: lists, the refusals in their order, and lent lists whose front is written.
 pub mod Lists
-pub mod Laws
 pub mod Refusals
-pub mod Stores
+pub mod Filled

@@ -10,7 +10,7 @@ use Rattle.grid_search.specs.declared.GridSearch.{GridSearch}
 use Rattle.grid_search.specs.declared.Made.{Made}
 use Rattle.grid_search.specs.Sheet.{made, sheetOk}
 use Rattle.rows.specs.declared.Inserted.{Inserted}
-use Rattle.rows.specs.Library.{Library}
+use Rattle.table.specs.Library.{Library}
 use Rattle.rows.specs.Insert.{inserted}
 use Rattle.text.specs.Text.{refusal}
 use Rattle.loading.proofs.Sheets.{sheet-good}

@@ -9,7 +9,7 @@ ghost use mathlib.Core.Path.{_≡_};
 ghost use mathlib.Core.Bool.{true};
 ghost use lib.ListN.{length, take};
 ghost use Rattle.grid_search.specs.Sheet.{made};
-ghost use Rattle.rows.specs.Library.{library};
+ghost use Rattle.table.specs.Library.{library};
 ghost use Rattle.rows.specs.Insert.{inserted};
 ghost use Rattle.loading.specs.Loading.{sheetIn};
 ghost use Rattle.files.specs.Files.{allCame, content, partLength, partOf, marksAnswer, said};

@@ -13,7 +13,8 @@ use Rattle.geometry.specs.Position.{dimension}
 use Rattle.grid.specs.Divisions.{counts}
 use Rattle.grid.specs.Containers.{containers}
 use Rattle.grid_search.specs.declared.GridSearch.{GridSearch}
-use Rattle.table.specs.Rows.{rowsOf, idIn}
+use Rattle.table.specs.Rows.{idIn}
+use Rattle.table.specs.Library.{rowsOf}
 use Rattle.rows.specs.Posts.{Checked}
 use Rattle.sorting.specs.Posts.{within, Below}
 use Rattle.listing.specs.declared.Place.{Place}

@@ -6,7 +6,7 @@ ghost use mathlib.Core.Bool.{true, false, cond};
 ghost use mathlib.Core.List.{map};
 ghost use lib.ListN.{length, getD, take};
 ghost use Rattle.basics.specs.Lists.{over};
-ghost use Rattle.table.specs.Rows.{rowAt, rowsOf};
+ghost use Rattle.table.specs.Library.{rowAt, rowsOf};
 ghost use Rattle.sorting.specs.Sorted.{distinct};
 ghost use Rattle.sorting.specs.Posts.{within, Below};
 ghost use Rattle.listing.specs.Place.{asked, isOn, containerNear};

@@ -1,5 +1,4 @@
 -- Laws of loading.
 pub mod Chunks
-pub mod Restated
 pub mod Marks
 pub mod Sheets

@@ -11,16 +11,18 @@ use lib.ListN.{length, take, drop, drop-of-length-le}
 use lib.Ieee.{Float}
 use borrow.Author.Tests.{ne-eqb}
 use Rattle.basics.specs.Lists.{tab}
-use Rattle.basics.specs.Laws.{length-tab, drop-tab}
+use Rattle.basics.proofs.Lists.{length-tab, drop-tab}
 use Rattle.basics.specs.Refusals.{Answer, refused, success, fault}
 use Rattle.grid_search.specs.declared.GridSearch.{GridSearch}
 use Rattle.rows.specs.declared.Inserted.{Inserted}
 use Rattle.rows.specs.declared.Inserted.the-variants.{Stored, Refused}
-use Rattle.rows.specs.Library.{Library, library, libraryTests, Turn}
-use Rattle.rows.specs.Insert.{insertion, inserted}
+use Rattle.table.specs.Library.{Library, library}
+use Rattle.rows.specs.Damage.{libraryTests}
+use Rattle.rows.specs.Insert.{Turn, insertion, inserted, usedAfter, Gives}
+use Rattle.rows.proofs.Kept.{insertion-passes}
 use Rattle.records.specs.declared.Record.{Record}
 use Rattle.records.specs.Records.{reading}
-use Rattle.loading.specs.Loading.{Gives, usedAfter, placeOf, unless, recordsOf, insertMark, insertRecord, andThen, insertAll, leftover, finish, insertBytes, Inserts}
+use Rattle.loading.specs.Loading.{placeOf, unless, recordsOf, insertMark, insertRecord, andThen, insertAll, leftover, finish, insertBytes, Inserts}
 use Rattle.loading.proofs.Chunks.{bytes-are, leftover-none}
 
 -- ---- one record
@@ -166,17 +168,14 @@ bytes-used width s l bytes n e =
     ap (λ (k : Library). k .used) (f .1) ∙ all-used s l (recordsOf width bytes) n (f .0)
 
 -- a library that is not damaged and took them all is not damaged
-abbrev pub Keeps : GridSearch → Type 0
-Keeps s = (l : Library) (i : ℕ) (x : List Float) → fault (libraryTests s l) ≡ none → fault (libraryTests s (insertion s l i x .library)) ≡ none
-
-module _ (s : GridSearch) (keeps : Keeps s) where
+module _ (s : GridSearch) where
   record-sound : (l : Library) → fault (libraryTests s l) ≡ none → (bytes : List ℕ) → fault (libraryTests s (insertRecord s l bytes .library)) ≡ none
   unfolding insertRecord insertMark
   record-sound l v bytes = go (reading bytes)
     where
       go : (a : Answer Record) → fault (libraryTests s (insertMark s l a .library)) ≡ none
       go (refused n) = v
-      go (success m) = keeps l (m .id) (placeOf (s .ndim) m) v
+      go (success m) = insertion-passes s l (m .id) (placeOf (s .ndim) m) v
 
   all-sound : (l : Library) → fault (libraryTests s l) ≡ none → (rs : List (List ℕ)) → fault (libraryTests s (insertAll s l rs .library)) ≡ none
   unfolding insertAll andThen
@@ -187,9 +186,9 @@ module _ (s : GridSearch) (keeps : Keeps s) where
       go t u (refused m) a b = a
       go t u (success m) a b = b
 
-pub bytes-sound : (width : ℕ) (s : GridSearch) → Keeps s → (l : Library) → fault (libraryTests s l) ≡ none → (bytes : List ℕ) (n : ℕ) → insertBytes width s l bytes .answer ≡ success n
+pub bytes-sound : (width : ℕ) (s : GridSearch) (l : Library) → fault (libraryTests s l) ≡ none → (bytes : List ℕ) (n : ℕ) → insertBytes width s l bytes .answer ≡ success n
     → fault (libraryTests s (insertBytes width s l bytes .library)) ≡ none
 unfolding insertBytes finish
-bytes-sound width s keeps l v bytes n e =
+bytes-sound width s l v bytes n e =
     let all = insertAll s l (recordsOf width bytes) in
-    rw (finished (leftover width bytes) all n (all .answer) refl e .1) (all-sound s keeps l v (recordsOf width bytes))
+    rw (finished (leftover width bytes) all n (all .answer) refl e .1) (all-sound s l v (recordsOf width bytes))

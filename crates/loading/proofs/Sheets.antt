@@ -11,12 +11,12 @@ use lib.ListN.{length}
 use borrow.Author.Tests.{eq-eqb, ne-eqb}
 use Rattle.basics.specs.Refusals.{Answer, refused, success, fault}
 use Rattle.geometry.specs.Position.{dimension}
-use Rattle.geometry.specs.Axes.{two-or-three}
+use Rattle.geometry.proofs.Axes.{two-or-three}
 use Rattle.grid_search.specs.declared.GivenU64.the-variants as number
 use Rattle.grid_search.specs.declared.GivenF64.the-variants as float
 use Rattle.grid_search.specs.declared.GridSearch.{GridSearch}
 use Rattle.grid_search.specs.Sheet.{newSheet, sheetOk}
-use Rattle.grid_search.specs.Remade.{made-good}
+use Rattle.grid_search.proofs.Remade.{made-good}
 use Rattle.records.specs.declared.Record.{Record}
 use Rattle.records.specs.Records.{recordAt}
 use Rattle.loading.specs.Loading.{placeOf, fileTests, unless, sheetOfRecords, sheetIn}

@@ -1,7 +1,6 @@
 -- A sheet and marks from the bytes of their files.
 -- Assumes nothing.
 use Prim.Native.Nat.{ℕ, _*_, _/_, _%_}
-use mathlib.Core.Path.{_≡_}
 use mathlib.Core.Bool.{not}
 use mathlib.Core.Option.{Option, none, some}
 use mathlib.Core.List.{List, [], _∷_}
@@ -17,19 +16,10 @@ use Rattle.grid_search.specs.declared.GivenF64.the-variants as float
 use Rattle.grid_search.specs.declared.GridSearch.{GridSearch}
 use Rattle.grid_search.specs.Sheet.{newSheet}
 use Rattle.rows.specs.declared.Inserted.{Inserted}
-use Rattle.rows.specs.declared.Inserted.the-variants as insert
-use Rattle.rows.specs.Library.{Library, Turn}
-use Rattle.rows.specs.Insert.{insertion, inserted}
+use Rattle.table.specs.Library.{Library}
+use Rattle.rows.specs.Insert.{Turn, insertion, Gives}
 use Rattle.records.specs.declared.Record.{Record}
 use Rattle.records.specs.Records.{recordAt, reading}
-
-abbrev pub usedAfter : Inserted → ℕ → ℕ
-usedAfter (insert.Stored n) used = n
-usedAfter (insert.Refused m) used = used
-
-pub record Gives (t : Turn ℕ) (r : Inserted) (after : Library) : Type 0 where
-  pub answers : inserted r ≡ t .answer
-  pub library-is : after ≡ t .library
 
 -- the floats of a record on the first n axes: in 2D the third is not read
 abbrev pub placeOf : ℕ → Record → List Float

@@ -11,23 +11,19 @@ use Rattle.grid_search.specs.declared.GridSearch.{GridSearch}
 use Rattle.grid_search.specs.Sheet.{sheetOk}
 use Rattle.rows.specs.declared.Inserted.{Inserted}
 use Rattle.rows.specs.declared.Inserted.the-variants.{Stored, Refused}
-use Rattle.rows.specs.Library.{Library, table, space, level, tooLong, libraryTests, Turn}
-use Rattle.rows.specs.Insert.{inserted}
+use Rattle.table.specs.Library.{Library, table, space, level, tooLong}
+use Rattle.rows.specs.Damage.{libraryTests}
+use Rattle.rows.specs.Insert.{Turn, inserted}
+use Rattle.rows.proofs.Kept.{empty-passes}
 use Rattle.text.specs.Text.{refusal}
 use Rattle.display.specs.Display.{displayText}
 use Rattle.loading.specs.Loading.{insertBytes, Inserts}
-use Rattle.loading.proofs.Marks.{Keeps, bytes-used, bytes-sound}
-use Rattle.independence.specs.Run.{change, insert, step, run}
-use Rattle.independence.proofs.Theorems.{start, run-sound}
+use Rattle.loading.proofs.Marks.{bytes-used, bytes-sound}
 use Rattle.outcome.specs.Outcome.{textOr, libraryText, outcomeText, emptyLibrary, afterMarks, afterSheet}
 
-empty-passes : (s : GridSearch) → sheetOk s ≡ true → fault (libraryTests s emptyLibrary) ≡ none
+start : (s : GridSearch) → sheetOk s ≡ true → fault (libraryTests s emptyLibrary) ≡ none
 unfolding emptyLibrary level space tooLong
-empty-passes s good = start s emptyLibrary good refl refl (record { none-used = refl })
-
-keeps : (s : GridSearch) → Keeps s
-unfolding run step
-keeps s l i x v = run-sound s l v (change (insert i x) ∷ []) .passes
+start s good = empty-passes s emptyLibrary good refl refl refl
 
 shown : (s : GridSearch) (l : Library) → fault (libraryTests s l) ≡ none → libraryText s l ≡ displayText s (table l)
 unfolding libraryText textOr
@@ -43,7 +39,7 @@ module _ (s : GridSearch) (good : sheetOk s ≡ true) (bytes : List ℕ) (lists 
   outcome (Stored n) g =
       let done : turn .answer ≡ success n = sym (g .answers) in
       let same : lists n ≡ turn .library = ap lists (sym (bytes-used 32 s emptyLibrary bytes n done)) ∙ g .library-is in
-      ap (libraryText s) same ∙ shown s (turn .library) (bytes-sound 32 s (keeps s) emptyLibrary (empty-passes s good) bytes n done)
+      ap (libraryText s) same ∙ shown s (turn .library) (bytes-sound 32 s emptyLibrary (start s good) bytes n done)
 
   -- what is put once the marks were inserted with this answer is what the definition prints of them
   pub same-text : (r : Inserted) → Inserts turn r lists → outcomeText s lists (inserted r) ≡ afterSheet (success s) (some bytes)

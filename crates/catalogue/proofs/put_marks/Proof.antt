@@ -2,7 +2,7 @@
 -- Assumes nothing.
 use lib.Ieee.{ofBits}
 use borrow.Author.Needs.{needs}
-use Rattle.rows.specs.Library.{library}
+use Rattle.table.specs.Library.{library}
 use Rattle.outcome.specs.Outcome.{emptyLibrary}
 use Rattle.catalogue.proofs.Laws.{judged}
 use Rattle.catalogue.proofs.put_marks.Statement.{statement}

@@ -6,7 +6,7 @@ use mathlib.Core.Path.{sym}
 use mathlib.Core.List.{_++_}
 use lib.ListN.{length, drop, length-append}
 use lib.Seq.{length-take-le}
-use Rattle.rows.specs.Library.{library}
+use Rattle.table.specs.Library.{library}
 use Rattle.files.proofs.Parts.{part}
 use borrow.Author.Needs.{needs}
 use Rattle.files.proofs.insert_part.Statement.{statement}

@@ -2,7 +2,7 @@
 -- Assumes nothing.
 use mathlib.Core.Path.{refl}
 use mathlib.Core.Option.{none}
-use Rattle.rows.specs.Library.{library}
+use Rattle.table.specs.Library.{library}
 use Rattle.files.specs.Read.{MoreRead}
 use Rattle.files.proofs.Parts.{start, more, last, stopped, ended}
 use borrow.Author.Needs.{needs}

@@ -3,7 +3,6 @@
 use mathlib.Core.Path.{sym}
 use lib.Seq.{length-take-le}
 use borrow.Author.Needs.{needs}
-use Rattle.loading.proofs.Restated.{restated}
 use Rattle.loading.proofs.insert_mark.Statement.{statement}
 use Rattle.loading.proofs.insert_mark.Tie as tie
 
@@ -23,7 +22,7 @@ returns : tie.Need-returns
 returns c =
     let a = c .before .before .before .before .before .before .before .before .args in
     let same = c .before .before .before .before .before .before .before .floats-read .ensures .1 (record { x = a .mark .x; y = a .mark .y; z = a .mark .z }) in
-    rw (sym same) (restated _ _ _ _ (c .insert .ensures))
+    rw (sym same) (c .insert .ensures)
 
 pub insert-mark-spec : {M : Type 1} → statement M
 insert-mark-spec =

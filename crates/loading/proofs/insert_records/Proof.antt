@@ -7,7 +7,7 @@ use native.Mathlib.Omega.{arith}
 use mathlib.Core.Path.{refl}
 use lib.ListN.{length}
 use borrow.Author.Needs.{needs}
-use Rattle.rows.specs.Library.{library}
+use Rattle.table.specs.Library.{library}
 use Rattle.loading.proofs.Chunks.{record-inside}
 use Rattle.loading.proofs.Marks.{Going, goes-on, stops, all-stored, left-over}
 use Rattle.loading.proofs.insert_records.Statement.{statement}
