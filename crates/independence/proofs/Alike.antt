@@ -20,8 +20,8 @@ use Rattle.listing.specs.declared.Filter.{Filter}
 use Rattle.listing.specs.Place.{Asked, isOn, placeTests}
 use Rattle.listing.specs.Listing.{idsOn, occupied, onTests}
 use Rattle.independence.specs.Run.{isNone}
-use Rattle.independence.specs.Queries.{pass, holds, near, on}
-use Rattle.independence.proofs.Ids.{has-ids, holds-own, none-there, occupied-own}
+use Rattle.independence.specs.Queries.{pass, near, on}
+use Rattle.independence.proofs.Ids.{holds, has-ids, holds-own, none-there, occupied-own}
 
 -- tests one list after the other
 pass-both : (us ts : List Test) → pass (us ++ ts) ≡ (pass us && pass ts)

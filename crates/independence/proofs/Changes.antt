@@ -10,7 +10,7 @@ use lib.Dec.{eqb}
 use lib.ListN.{length}
 use lib.Ieee.{Float}
 use borrow.Author.Tests.{leb-true, le-leb}
-use Rattle.basics.specs.Refusals.{Test, fault}
+use Rattle.basics.specs.Refusals.{Test, refuse, fault}
 use Rattle.basics.proofs.Refusals.{passed, fault-left, fault-right}
 use Rattle.geometry.specs.Position.{positionOf}
 use Rattle.grid_search.specs.declared.GridSearch.{GridSearch}
@@ -23,13 +23,16 @@ use Rattle.rows.specs.Damage.{libraryTests}
 use Rattle.rows.specs.Insert.{Turn, points, targets, rowsWith, positionTests, roomTests, insertTests, settle, insertion}
 use Rattle.rows.proofs.Check.{whole}
 use Rattle.rows.proofs.Kept.{inserted-order, accepted-position, accepted-room, accepted-space, accepted-passes}
-use Rattle.independence.specs.Run.{Change, insert, change, step, refusalIn, refusal}
+use Rattle.independence.specs.Run.{Change, insert, change, changing, step, refusalIn, refusal}
 use Rattle.independence.specs.Histories.{whose, effect}
 
--- ---- a change's own tests, past 24 and 13, and the library that it leaves where none fails: a clause for each kind of change
+-- ---- a change's own tests, past 24 and 13, and what it answers and leaves where none fails: a clause for each kind of change
 
 unfoldable pub ownTests : GridSearch → Library → Change → List Test
 ownTests s l (insert i x) = positionTests s x (points s x) ++ roomTests l (rowsWith s i x (table l))
+
+unfoldable pub counting : GridSearch → Change → List Row → ℕ
+counting s (insert i x) rows = length (rowsWith s i x rows)
 
 unfoldable pub changed : GridSearch → Library → Change → Library
 changed s l (insert i x) = write (rowsWith s i x (table l)) l
@@ -44,30 +47,20 @@ insert-tests s l i x e = e
 
 -- ---- one clause for each kind of change
 
-pub insertion-is : (s : GridSearch) (l : Library) (i : ℕ) (x : List Float)
-    → insertion s l i x ≡ settle (fault (changeTests s l (insert i x))) (length (rowsWith s i x (table l))) (changed s l (insert i x)) l
-unfolding insertion changeTests ownTests changed
-insertion-is s l i x = refl
+-- the tests decide between what the change leaves and what was there
+pub changing-is : (s : GridSearch) (l : Library) (c : Change) → changing s l c ≡ settle (fault (changeTests s l c)) (counting s c (table l)) (changed s l c) l
+unfolding changing insertion changeTests ownTests counting changed
+changing-is s l (insert i x) = refl
 
-insertion-by : (s : GridSearch) (l : Library) (i : ℕ) (x : List Float) (o : Option ℕ) → fault (changeTests s l (insert i x)) ≡ o
-    → insertion s l i x ≡ settle o (length (rowsWith s i x (table l))) (changed s l (insert i x)) l
-insertion-by s l i x o e = insertion-is s l i x ∙ ap (λ (o : Option ℕ). settle o (length (rowsWith s i x (table l))) (changed s l (insert i x)) l) e
-
--- what `step` does: the tests decide between the library that the change leaves and the one that was there
-pub step-done : (s : GridSearch) (l : Library) (c : Change) → fault (changeTests s l c) ≡ none
-    → (step s l (change c) .library ≡ changed s l c) × (refusal (step s l (change c) .reply) ≡ none)
-unfolding step refusal settle
-step-done s l (insert i x) e = let d = insertion-by s l i x none e in (ap (λ (t : Turn ℕ). t .library) d, ap (λ (t : Turn ℕ). refusalIn (t .answer)) d)
-
-pub step-refused : (s : GridSearch) (l : Library) (c : Change) (n : ℕ) → fault (changeTests s l c) ≡ some n
-    → (step s l (change c) .library ≡ l) × (refusal (step s l (change c) .reply) ≡ some n)
-unfolding step refusal settle
-step-refused s l (insert i x) n e = let d = insertion-by s l i x (some n) e in (ap (λ (t : Turn ℕ). t .library) d, ap (λ (t : Turn ℕ). refusalIn (t .answer)) d)
+-- and they look at the space and the rows of a library alone
+pub same-own : (s : GridSearch) (l m : Library) → space l ≡ space m → table l ≡ table m → (c : Change) → ownTests s l c ≡ ownTests s m c
+unfolding ownTests roomTests
+same-own s l m z t (insert i x) = ap₂ (λ (u : Space) (rows : List Row). positionTests s x (points s x) ++ (refuse 12 (not (roomy u (rowsWith s i x rows))) ∷ [])) z t
 
 -- the rows that it leaves are those of its effect
 pub changed-table : (s : GridSearch) (l : Library) (c : Change) → table (changed s l c) ≡ effect s c (table l)
 unfolding changed effect
-changed-table s l (insert i x) = table-write (rowsWith s i x (table l)) l
+changed-table s l (insert i x) = table-write _ l
 
 -- it leaves the space as it was, and a library that passes 24 and 13
 pub changed-space : (s : GridSearch) (l : Library) (c : Change) → fault (changeTests s l c) ≡ none → space (changed s l c) ≡ space l
@@ -122,6 +115,20 @@ module _ (s : GridSearch) (i : ℕ) where
       fit-insert q = fault-left (libraryTests s l) (ownTests s l (insert j x)) (unfold changeTests in q)
 
 -- ---- the same for every change
+
+changing-by : (s : GridSearch) (l : Library) (c : Change) (o : Option ℕ) → fault (changeTests s l c) ≡ o → changing s l c ≡ settle o (counting s c (table l)) (changed s l c) l
+changing-by s l c o e = changing-is s l c ∙ ap (λ (o : Option ℕ). settle o (counting s c (table l)) (changed s l c) l) e
+
+-- what `step` does
+pub step-done : (s : GridSearch) (l : Library) (c : Change) → fault (changeTests s l c) ≡ none
+    → (step s l (change c) .library ≡ changed s l c) × (refusal (step s l (change c) .reply) ≡ none)
+unfolding step refusal settle
+step-done s l c e = let d = changing-by s l c none e in (ap (λ (t : Turn ℕ). t .library) d, ap (λ (t : Turn ℕ). refusalIn (t .answer)) d)
+
+pub step-refused : (s : GridSearch) (l : Library) (c : Change) (n : ℕ) → fault (changeTests s l c) ≡ some n
+    → (step s l (change c) .library ≡ l) × (refusal (step s l (change c) .reply) ≡ some n)
+unfolding step refusal settle
+step-refused s l c n e = let d = changing-by s l c (some n) e in (ap (λ (t : Turn ℕ). t .library) d, ap (λ (t : Turn ℕ). refusalIn (t .answer)) d)
 
 -- a change that is accepted was made on a library that passes 24 and 13
 pub fit : (s : GridSearch) (l : Library) (c : Change) → fault (changeTests s l c) ≡ none → fault (libraryTests s l) ≡ none

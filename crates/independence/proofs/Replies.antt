@@ -1,7 +1,6 @@
 -- The reply of a library that passes 24 and 13 depends on its rows in use and its space alone, not on what its lists hold past the used count.
 use Prim.Native.Nat.{ℕ}
 use mathlib.Core.Path.{_≡_, refl, sym, _∙_, ap, ap₂}
-use mathlib.Core.Bool.{not}
 use mathlib.Core.Option.{Option, none, some}
 use mathlib.Core.List.{List, [], _∷_, _++_, append-assoc}
 use lib.Dec.{ltb}
@@ -11,26 +10,22 @@ use Rattle.basics.specs.Refusals.{Test, refuse, fault, answer}
 use Rattle.basics.proofs.Refusals.{fault-right}
 use Rattle.grid_search.specs.declared.GridSearch.{GridSearch}
 use Rattle.table.specs.declared.Row.{Row}
-use Rattle.table.specs.Library.{Library, table, Space, space, roomy}
+use Rattle.table.specs.Library.{Library, table, space}
 use Rattle.rows.specs.Damage.{libraryTests}
-use Rattle.rows.specs.Insert.{Turn, points, rowsWith, positionTests, roomTests, settle, insertion}
+use Rattle.rows.specs.Insert.{Turn, positionTests, settle}
 use Rattle.search.specs.Search.{nearRows, chosen, searchTests, searchAnswer}
 use Rattle.listing.specs.declared.Filter.{Filter}
 use Rattle.listing.specs.Place.{Asked, isOn, placeTests}
 use Rattle.listing.specs.Listing.{idsOf, occupied, Listing, idsOn, onTests, listingTests, listOut, listing}
-use Rattle.independence.specs.Run.{insert, Call, change, search, list, inserted, found, listed, step}
-use Rattle.independence.proofs.Changes.{changeTests, ownTests, changed, insertion-is}
+use Rattle.independence.specs.Run.{Change, Call, change, search, list, counted, found, listed, changing, step}
+use Rattle.independence.proofs.Changes.{changeTests, ownTests, counting, changed, changing-is, same-own}
 
 settled : {A : Type 0} (o : Option ℕ) (a : A) (new old : Library) → settle o a new old .answer ≡ answer o a
 unfolding settle answer
 settled none a new old = refl
 settled (some n) a new old = refl
 
--- each call's reply, by the space and the rows
-
-insertReply : GridSearch → Space → List Row → ℕ → List Float → Option ℕ
-insertReply s z rows i x = fault (positionTests s x (points s x) ++ (refuse 12 (not (roomy z (rowsWith s i x rows))) ∷ []))
-
+-- a listing by the rows
 listReply : GridSearch → List Row → Asked → Filter → List ℕ → Listing
 listReply s rows p f lent =
     listOut (fault (placeTests s p f (occupied rows) ++ (refuse 14 (ltb (length lent) (length (idsOf (isOn s p f) rows))) ∷ []))) (idsOf (isOn s p f) rows) lent
@@ -40,12 +35,12 @@ module _ (s : GridSearch) (l : Library) (v : fault (libraryTests s l) ≡ none) 
   own-decide : (ts : List Test) → fault (libraryTests s l ++ ts) ≡ fault ts
   own-decide ts = fault-right (libraryTests s l) ts v
 
-  insert-is : (i : ℕ) (x : List Float) → insertion s l i x .answer ≡ answer (insertReply s (space l) (table l) i x) (length (rowsWith s i x (table l)))
-  unfolding changeTests ownTests roomTests insertReply
-  insert-is i x =
-      ap (λ (t : Turn ℕ). t .answer) (insertion-is s l i x)
-      ∙ settled (fault (changeTests s l (insert i x))) (length (rowsWith s i x (table l))) (changed s l (insert i x)) l
-      ∙ ap (λ (o : Option ℕ). answer o (length (rowsWith s i x (table l)))) (own-decide (ownTests s l (insert i x)))
+  change-is : (c : Change) → changing s l c .answer ≡ answer (fault (ownTests s l c)) (counting s c (table l))
+  unfolding changeTests
+  change-is c =
+      ap (λ (t : Turn ℕ). t .answer) (changing-is s l c)
+      ∙ settled (fault (changeTests s l c)) (counting s c (table l)) (changed s l c) l
+      ∙ ap (λ (o : Option ℕ). answer o (counting s c (table l))) (own-decide (ownTests s l c))
 
   search-is : (x : List Float) → searchAnswer s l x ≡ answer (fault (positionTests s x (x ∷ []))) (chosen s x (nearRows s x (table l)))
   unfolding searchAnswer searchTests
@@ -60,11 +55,11 @@ module _ (s : GridSearch) (l : Library) (v : fault (libraryTests s l) ≡ none) 
 
 -- two libraries that pass, of one space and with the same rows
 module _ (s : GridSearch) (m n : Library) (v : fault (libraryTests s m) ≡ none) (u : fault (libraryTests s n) ≡ none) (z : space m ≡ space n) (t : table m ≡ table n) where
-  same-insert : (i : ℕ) (x : List Float) → insertion s m i x .answer ≡ insertion s n i x .answer
-  same-insert i x =
-      insert-is s m v i x
-      ∙ ap₂ (λ (y : Space) (rows : List Row). answer (insertReply s y rows i x) (length (rowsWith s i x rows))) z t
-      ∙ sym (insert-is s n u i x)
+  same-change : (c : Change) → changing s m c .answer ≡ changing s n c .answer
+  same-change c =
+      change-is s m v c
+      ∙ ap₂ (λ (ts : List Test) (rows : List Row). answer (fault ts) (counting s c rows)) (same-own s m n z t c) t
+      ∙ sym (change-is s n u c)
 
   same-search : (x : List Float) → searchAnswer s m x ≡ searchAnswer s n x
   same-search x = search-is s m v x ∙ ap (λ (rows : List Row). answer (fault (positionTests s x (x ∷ []))) (chosen s x (nearRows s x rows))) t ∙ sym (search-is s n u x)
@@ -74,6 +69,6 @@ module _ (s : GridSearch) (m n : Library) (v : fault (libraryTests s m) ≡ none
 
   pub same-reply : (c : Call) → step s m c .reply ≡ step s n c .reply
   unfolding step
-  same-reply (change (insert i x)) = ap inserted (same-insert i x)
+  same-reply (change c) = ap counted (same-change c)
   same-reply (search x) = ap found (same-search x)
   same-reply (list p f lent) = ap listed (same-list p f lent)
