@@ -201,10 +201,10 @@ module _ (slots : List Slot) (good : all words slots ≡ true) where
         lines-bound ks (and-right (word k) (all word ks) e),
       )
 
-  pub lines-most : length (linesOf slots (keysIn slots)) ≤ 47 * length slots
+  lines-most : length (linesOf slots (keysIn slots)) ≤ 47 * length slots
   lines-most = omega (arith, lines-bound (keysIn slots) (keys-in-words slots good), keys-length slots, weigh-all slots (keysIn slots) (keys-ascend slots))
 
-  pub summary-most : (divisions : List ℕ) → all word divisions ≡ true → length divisions ≤ 3 → length slots < 2 ^ 64
+  summary-most : (divisions : List ℕ) → all word divisions ≡ true → length divisions ≤ 3 → length slots < 2 ^ 64
       → length (summary slots divisions) ≤ 22 * length slots + 148
   unfolding summary
   summary-most divisions e h l =

@@ -1,9 +1,9 @@
 -- A signed number is held by its bits, and what is read back from them is the number, where it fits.
 -- Assumes nothing.
-use Prim.Native.Nat.{ℕ, suc, _-_, _^_, _<_, zero-le}
+use Prim.Native.Nat.{suc, _-_, _^_, _<_, zero-le}
 use native.Mathlib.Omega.{arith}
 use mathlib.Core.Path.{_≡_, refl, sym, ap, ap₂, _∙_}
-use mathlib.Core.Bool.{Bool, true, false}
+use mathlib.Core.Bool.{Bool}
 use lib.Dec.{eqb}
 use lib.IntN.{ℤ, pos, negsuc}
 use lib.Signed.{leZ, nonNeg}

@@ -60,7 +60,7 @@ module _ (width : ℕ) (some-width : 0 < width) (a b : List ℕ) (e : length a %
       let past : (length a / width + i) * width ≡ length a + i * width = add-mul (length a / width) i width ∙ ap (λ (n : ℕ). n + i * width) (sym (whole-length width a e)) in
       ap (λ (n : ℕ). take width (drop n (a ++ b))) past ∙ ap (take width) (drop-append-add a b (i * width))
 
-  pub records-append : recordsOf width (a ++ b) ≡ recordsOf width a ++ recordsOf width b
+  records-append : recordsOf width (a ++ b) ≡ recordsOf width a ++ recordsOf width b
   unfolding recordsOf
   records-append =
       let n = length a / width in

@@ -18,7 +18,7 @@ use Rattle.rows.specs.declared.Inserted.{Inserted}
 use Rattle.rows.specs.declared.Inserted.the-variants.{Stored, Refused}
 use Rattle.table.specs.Library.{Library, library}
 use Rattle.rows.specs.Damage.{libraryTests}
-use Rattle.rows.specs.Insert.{Turn, insertion, inserted, usedAfter, Gives}
+use Rattle.rows.specs.Insert.{Turn, insertion, usedAfter, Gives}
 use Rattle.rows.proofs.Kept.{insertion-passes}
 use Rattle.records.specs.declared.Record.{Record}
 use Rattle.records.specs.Records.{reading}

@@ -9,7 +9,6 @@ use lib.ListN.{length, take, drop}
 use lib.Ieee.{Float}
 use Rattle.basics.specs.Lists.{tab}
 use Rattle.basics.specs.Refusals.{Test, refuse, fault, Answer, refused, success}
-use Rattle.geometry.specs.declared.Position.{Position}
 use Rattle.geometry.specs.Position.{coords, dimension}
 use Rattle.grid_search.specs.declared.GivenU64.the-variants as number
 use Rattle.grid_search.specs.declared.GivenF64.the-variants as float

@@ -1,12 +1,11 @@
 -- The outcome's text is what the definition prints: a library that took all the marks is not damaged.
 -- Assumes nothing.
 use Prim.Native.Nat.{ℕ}
-use native.Mathlib.Omega.{arith}
 use mathlib.Core.Path.{_≡_, refl, sym, ap, _∙_}
 use mathlib.Core.Bool.{true}
 use mathlib.Core.Option.{Option, none, some}
-use mathlib.Core.List.{List, [], _∷_}
-use Rattle.basics.specs.Refusals.{Answer, refused, success, fault}
+use mathlib.Core.List.{List}
+use Rattle.basics.specs.Refusals.{refused, success, fault}
 use Rattle.grid_search.specs.declared.GridSearch.{GridSearch}
 use Rattle.grid_search.specs.Sheet.{sheetOk}
 use Rattle.rows.specs.declared.Inserted.{Inserted}
@@ -15,7 +14,6 @@ use Rattle.table.specs.Library.{Library, table, space, level, tooLong}
 use Rattle.rows.specs.Damage.{libraryTests}
 use Rattle.rows.specs.Insert.{Turn, inserted}
 use Rattle.rows.proofs.Kept.{empty-passes}
-use Rattle.text.specs.Text.{refusal}
 use Rattle.display.specs.Display.{displayText}
 use Rattle.loading.specs.Loading.{insertBytes, Inserts}
 use Rattle.loading.proofs.Marks.{bytes-used, bytes-sound}

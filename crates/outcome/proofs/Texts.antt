@@ -19,7 +19,7 @@ use Rattle.text.specs.Text.{refusal, Put, Front}
 use Rattle.text.proofs.Laws.{over-front, put-front, refusal-short}
 use Rattle.display.specs.declared.Shown.the-variants.{Length, Refused}
 use Rattle.display.specs.Display.{displayText, displayTests, showing, Shows}
-use Rattle.display.proofs.Answers.{few, text-of-slots}
+use Rattle.display.proofs.Answers.{text-of-slots}
 use Rattle.display.proofs.Bounds.{whole-most}
 use Rattle.outcome.specs.Outcome.{textOr, libraryText}
 

@@ -1,6 +1,6 @@
 -- The definitions on a few numbers, evaluated.
 use mathlib.Core.Path.{_≡_, refl}
-use mathlib.Core.List.{List, [], _∷_}
+use mathlib.Core.List.{[], _∷_}
 use Rattle.text.specs.Text.{ascii, decimal, listText, refusal}
 
 zero-alone : decimal 0 ≡ ascii "0"

@@ -20,10 +20,11 @@ put-outcome-requires c κs = search needs
 returns : tie.Need-returns
 unfolding emptyLibrary ofBits
 returns c =
+    let start = c .before .before .before .before .before .before .before .before .before .before .before .before .before .before in
     let i = c .before .before .before .before .before .before .before .insert-file in
     let w = i .last .1 .1 .1 in
     let p = c .put-outcome .ensures in
-    (p .0, judged (c .before .before .before .before .before .before .before .before .before .before .before .before .before .before .args .sheet) (c .before .before .before .before .before .before .before .before .before .before .before .before .before .before .pre) (i .result) (library (w .0) (w .1 .0) (w .1 .1 .0) (w .1 .1 .1 .0) (w .1 .1 .1 .1 .0)) _ (i .ensures) (p .1))
+    (p .0, judged (start .args .sheet) (start .pre) (i .result) (library (w .0) (w .1 .0) (w .1 .1 .0) (w .1 .1 .1 .0) (w .1 .1 .1 .1 .0)) _ (i .ensures) (p .1))
 
 pub put-marks-spec : {M : Type 1} → statement M
 put-marks-spec =

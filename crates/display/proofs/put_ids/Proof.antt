@@ -69,12 +69,14 @@ loop-less c = search needs
 
 loop-again : tie.Need-loop-again Inv-loop μ-loop
 loop-again c =
-    let a = c .before .before .before .before .before .before .before .before .before .before .before .before .before .before .before .before .args in
-    let l = c .before .before .before .before .before .before .before .before .loop in
+    let start = c .before .before .before .before .before .before .before .before .before .before .before .before .before .before .before .before in
+    let turn = c .before .before .before .before .before .before .before .before in
+    let a = start .args in
+    let l = turn .loop in
     let numbers = map (within (a .ids .now)) (take (a .n) (a .order .now)) in
     let short : l .i < a .n = search needs in
-    let listed : l .i < length numbers = rw (names-length (a .ids .now) (a .order .now) (a .n) (c .before .before .before .before .before .before .before .before .before .before .before .before .before .before .before .before .pre .0)) short in
-    let this : c .before .before .before .id-at .result ≡ getD numbers (l .i) 0 = c .before .before .before .id-at .ensures ∙ sym (names-at (a .ids .now) (a .order .now) (a .n) (c .before .before .before .before .before .before .before .before .before .before .before .before .before .before .before .before .pre .0) (l .i) short) in
+    let listed : l .i < length numbers = rw (names-length (a .ids .now) (a .order .now) (a .n) (start .pre .0)) short in
+    let this : c .before .before .before .id-at .result ≡ getD numbers (l .i) 0 = c .before .before .before .id-at .ensures ∙ sym (names-at (a .ids .now) (a .order .now) (a .n) (start .pre .0) (l .i) short) in
     (search needs, rw (entries-more (ascii ", ") numbers (l .i) listed) (put-both (l .inv .1) (rw this at (c .before .before .put-entry .ensures))))
 
 put-byte-requires-2 : tie.Need-put-byte-requires-2 Inv-loop μ-loop

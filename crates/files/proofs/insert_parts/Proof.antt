@@ -35,13 +35,16 @@ marks-answer-requires c κs = search needs
 
 returns : tie.Need-returns Inv-loop μ-loop
 returns c =
-    let a = c .before .before .before .before .before .before .before .before .before .before .before .before .before .args in
+    let start = c .before .before .before .before .before .before .before .before .before .before .before .before .before in
+    let turn = c .before .before .before .before .before .before .before .before .before .before .before .before in
+    let a = start .args in
     let i = c .before .before .before .before .before .insert-part in
     let w = i .last .1 .1 .1 in
     let lists = library (w .0) (w .1 .0) (w .1 .1 .0) (w .1 .1 .1 .0) (w .1 .1 .1 .1 .0) in
     let n = c .before .before .before .part2 .given .0 .0 in
-    ended (a .width) (a .sheet) (library (a .keys .now) (a .ids .now) (a .xs .now) (a .ys .now) (a .zs .now) 0) lists n
-    (last (a .width) (a .sheet) (c .before .before .before .before .before .before .before .before .before .before .before .before .before .pre) (library (a .keys .now) (a .ids .now) (a .xs .now) (a .ys .now) (a .zs .now) 0) (c .before .before .before .before .before .before .before .before .before .before .before .before .loop .inv) lists (i .result) (i .ensures) n (c .before .before .before .part2 .given .1))
+    let l = library (a .keys .now) (a .ids .now) (a .xs .now) (a .ys .now) (a .zs .now) 0 in
+    ended (a .width) (a .sheet) l lists n
+    (last (a .width) (a .sheet) (start .pre) l (turn .loop .inv) lists (i .result) (i .ensures) n (c .before .before .before .part2 .given .1))
     refl _ _ (c .marks-answer .result) (c .marks-answer .ensures)
 
 enum-known-part-3 : tie.Need-enum-known-part-3 Inv-loop μ-loop
@@ -49,10 +52,12 @@ enum-known-part-3 c = search needs
 
 returns-2 : tie.Need-returns-2 Inv-loop μ-loop
 returns-2 c =
-    let a = c .before .before .before .before .before .before .before .before .before .before .before .args in
+    let start = c .before .before .before .before .before .before .before .before .before .before .before in
+    let turn = c .before .before .before .before .before .before .before .before .before .before in
+    let a = start .args in
     let i = c .before .before .before .insert-part in
     let w = i .last .1 .1 .1 in
-    stopped (a .width) (a .sheet) (c .before .before .before .before .before .before .before .before .before .before .before .pre) (library (a .keys .now) (a .ids .now) (a .xs .now) (a .ys .now) (a .zs .now) 0) (c .before .before .before .before .before .before .before .before .before .before .loop .inv)
+    stopped (a .width) (a .sheet) (start .pre) (library (a .keys .now) (a .ids .now) (a .xs .now) (a .ys .now) (a .zs .now) 0) (turn .loop .inv)
     (library (w .0) (w .1 .0) (w .1 .1 .0) (w .1 .1 .1 .0) (w .1 .1 .1 .1 .0)) (i .result) (i .ensures) (c .before .part3 .given .0 .0) (c .before .part3 .given .1)
 
 sub-turns : tie.Need-sub-turns Inv-loop μ-loop
@@ -63,10 +68,12 @@ loop-less c = search needs
 
 loop-again : tie.Need-loop-again Inv-loop μ-loop
 loop-again c =
-    let a = c .before .before .before .before .before .before .before .before .before .before .before .args in
+    let start = c .before .before .before .before .before .before .before .before .before .before .before in
+    let turn = c .before .before .before .before .before .before .before .before .before .before in
+    let a = start .args in
     let i = c .before .before .before .insert-part in
     let w = i .last .1 .1 .1 in
-    more (a .width) (a .sheet) (c .before .before .before .before .before .before .before .before .before .before .before .pre) (library (a .keys .now) (a .ids .now) (a .xs .now) (a .ys .now) (a .zs .now) 0) (c .before .before .before .before .before .before .before .before .before .before .loop .inv)
+    more (a .width) (a .sheet) (start .pre) (library (a .keys .now) (a .ids .now) (a .xs .now) (a .ys .now) (a .zs .now) 0) (turn .loop .inv)
     (library (w .0) (w .1 .0) (w .1 .1 .0) (w .1 .1 .1 .0) (w .1 .1 .1 .1 .0)) (i .result) (i .ensures) (c .before .part .given .0 .0) (c .before .part .given .1)
 
 returns-3 : tie.Need-returns-3 Inv-loop μ-loop

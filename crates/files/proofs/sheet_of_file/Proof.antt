@@ -20,7 +20,9 @@ sheet-of-records-requires c κs = search needs
 
 returns-2 : tie.Need-returns-2
 unfolding sheetIn content
-returns-2 c = rw (whole-test (c .before .before .before .before .args .opened) (c .before .before .before .before .args .after) (c .before .before .before .before .fits .opened) (c .before .before .before .before .fits .after) (c .before .before .all-came .ensures) (not-false _ (c .before .if1 .left))) (c .sheet-of-records .ensures)
+returns-2 c =
+    let start = c .before .before .before .before in
+    rw (whole-test (start .args .opened) (start .args .after) (start .fits .opened) (start .fits .after) (c .before .before .all-came .ensures) (not-false _ (c .before .if1 .left))) (c .sheet-of-records .ensures)
 
 pub sheet-of-file-spec : {M : Type 1} → statement M
 sheet-of-file-spec = tie.close (tie.spec all-came-requires returns sheet-of-records-requires returns-2)

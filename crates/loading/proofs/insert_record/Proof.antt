@@ -1,7 +1,6 @@
 -- By the two answers of reading.
 -- Assumes nothing.
 use mathlib.Core.Path.{refl, sym, ap, _∙_}
-use Rattle.table.specs.Library.{library}
 use Rattle.records.specs.Records.{readAnswer}
 use Rattle.loading.proofs.Marks.{of-record, no-record}
 use borrow.Author.Needs.{needs}

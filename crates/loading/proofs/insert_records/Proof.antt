@@ -58,25 +58,33 @@ enum-told c = search needs
 
 returns : tie.Need-returns Inv-loop μ-loop
 returns c =
-    let a = c .before .before .before .before .before .before .before .before .before .before .before .before .before .args in
-    let l = c .before .before .before .before .before .before .before .before .before .before .loop in
+    let start = c .before .before .before .before .before .before .before .before .before .before .before .before .before in
+    let turn = c .before .before .before .before .before .before .before .before .before .before in
+    let a = start .args in
+    let l = turn .loop in
     stops (a .width) (a .sheet) (a .bytes .now) (library (a .keys .now) (a .ids .now) (a .xs .now) (a .ys .now) (a .zs .now) (a .used))
     (library (l .keys) (l .ids) (l .xs) (l .ys) (l .zs) (l .rows))
-    (l .i) (l .inv) (taken (c .before .before .before .before .before .before .before .before .before)) (l .rows) _ (add-sub-cancel-left (l .i * a .width) (a .width)) (c .before .before .insert-record .result) (c .before .before .insert-record .ensures) (c .enum-told .given .0 .0) (c .enum-told .given .1)
+    (l .i) (l .inv) (taken (c .before .before .before .before .before .before .before .before .before)) (l .rows) _ (add-sub-cancel-left (l .i * a .width) (a .width))
+    (c .before .before .insert-record .result) (c .before .before .insert-record .ensures) (c .enum-told .given .0 .0) (c .enum-told .given .1)
 
 add-i : tie.Need-add-i Inv-loop μ-loop
-add-i c = omega (arith, taken (c .before .before .before .before .before .before .before .before .before .before), div-le-self (length (c .before .before .before .before .before .before .before .before .before .before .before .before .before .before .args .bytes .now)) (c .before .before .before .before .before .before .before .before .before .before .before .before .before .before .args .width))
+add-i c =
+    let start = c .before .before .before .before .before .before .before .before .before .before .before .before .before .before in
+    omega (arith, taken (c .before .before .before .before .before .before .before .before .before .before), div-le-self (length (start .args .bytes .now)) (start .args .width))
 
 loop-less : tie.Need-loop-less Inv-loop μ-loop
 loop-less c = search needs
 
 loop-again : tie.Need-loop-again Inv-loop μ-loop
 loop-again c =
-    let a = c .before .before .before .before .before .before .before .before .before .before .before .before .before .before .args in
-    let l = c .before .before .before .before .before .before .before .before .before .before .before .loop in
+    let start = c .before .before .before .before .before .before .before .before .before .before .before .before .before .before in
+    let turn = c .before .before .before .before .before .before .before .before .before .before .before in
+    let a = start .args in
+    let l = turn .loop in
     goes-on (a .width) (a .sheet) (a .bytes .now) (library (a .keys .now) (a .ids .now) (a .xs .now) (a .ys .now) (a .zs .now) (a .used))
     (library (l .keys) (l .ids) (l .xs) (l .ys) (l .zs) (l .rows))
-    (l .i) (l .inv) (taken (c .before .before .before .before .before .before .before .before .before .before)) (l .rows) _ (add-sub-cancel-left (l .i * a .width) (a .width)) (c .before .before .before .insert-record .result) (c .before .before .before .insert-record .ensures) (c .before .answer .given .0 .0) (c .before .answer .given .1)
+    (l .i) (l .inv) (taken (c .before .before .before .before .before .before .before .before .before .before)) (l .rows) _ (add-sub-cancel-left (l .i * a .width) (a .width))
+    (c .before .before .before .insert-record .result) (c .before .before .before .insert-record .ensures) (c .before .answer .given .0 .0) (c .before .answer .given .1)
 
 mul-if1 : tie.Need-mul-if1 Inv-loop μ-loop
 mul-if1 c = rw (c .before .before .count-records .ensures) (omega (arith, div-mul-le-self (length (c .before .before .before .before .args .bytes .now)) (c .before .before .before .before .args .width)))
