@@ -139,12 +139,12 @@ good-around n [] h k = absurd (omega arith)
 good-around n (p ∷ ps) h k = record { low = least-point n p ps (h .0) (h .1); high = greatest-point n p ps (h .0) (h .1); order = ordered-fold n p p ps (h .0) (h .0) (h .1) (ordered-self p (h .0 .plain)) }
 
 -- ---- those of a mesh
-module _ (n : ℕ) (m : Mesh) (w : Whole n m) (h : all plain (m .coords) ≡ true) where
+module _ (n : ℕ) (m : Mesh) (w : Whole n m) (h : all plain (m .points) ≡ true) where
   point-good : (p : ℕ) → p < pointCount n m → Point n (pointAt n m p)
   unfolding pointAt
   point-good p k = record {
     long = length-point n m p;
-    plain = all-tab plain n (λ (i : ℕ). getD (m .coords) (p * n + i) nan) (λ i l. all-at plain (m .coords) (p * n + i) nan (lt-of-lt-of-le (omega arith) (point-in n m w p k)) h);
+    plain = all-tab plain n (λ (i : ℕ). getD (m .points) (p * n + i) nan) (λ i l. all-at plain (m .points) (p * n + i) nan (lt-of-lt-of-le (omega arith) (point-in n m w p k)) h);
   }
 
   box-good : (c : ℕ) → c < cellCount n m → Good n (boxOf n m c)
@@ -153,7 +153,7 @@ module _ (n : ℕ) (m : Mesh) (w : Whole n m) (h : all plain (m .coords) ≡ tru
       good-around n (cornerPoints n m c)
       (subst (Each (Point n)) (sym (corners-tab n m c))
       (each-tab (Point n) (n + 1) (λ (i : ℕ). pointAt n m (getD (m .corners) (c * (n + 1) + i) 0))
-      (λ i l. point-good (getD (m .corners) (c * (n + 1) + i) 0) (names-point n m w (c * (n + 1) + i) (corner-in n m w c i k (omega arith))))))
+      (λ i l. point-good (getD (m .corners) (c * (n + 1) + i) 0) (names-point n m w (c * (n + 1) + i) (corner-in n m c i k (omega arith))))))
       (rw (corners-tab n m c, length-tab) (omega arith))
 
   pub boxes-good : Each (Good n) (boxes n m)

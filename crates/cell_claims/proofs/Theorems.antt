@@ -41,7 +41,7 @@ record Accepted (n : ℕ) (m : Mesh) (t : Settings) (l : Lent) : Type 0 where
   pub short : (meshTooLong n m || lentTooLong l) ≡ false
   pub lengths : length (l .cells) ≡ length (l .keys)
   pub whole : brokenMesh n m ≡ false
-  pub coordinates : all coordinate (m .coords) ≡ true
+  pub coordinates : all coordinate (m .points) ≡ true
   pub settings : settingsOk t ≡ true
   pub tolerated : le (t .tolerance) zeroF ≡ false
   pub bordered : lt (t .«border_tol») zeroF ≡ false
@@ -61,7 +61,7 @@ accepted n m t l e = go (unrefused (buildTests n m t l) e)
         let r = q .1 .1 .1 .1 .1 .1 .1 in
         let w = measure n m t in
         let k = make n w t in
-        let c = and-both (all coordinate (m .coords)) (settingsOk t) (not-false (all coordinate (m .coords) && settingsOk t) (q .0)) in
+        let c = and-both (all coordinate (m .points)) (settingsOk t) (not-false (all coordinate (m .points) && settingsOk t) (q .0)) in
         record {
           axes = not-false (dimension n) (p .0);
           short = p .1 .0;
@@ -117,7 +117,7 @@ module _ (n : ℕ) (m : Mesh) (t : Settings) (l : Lent) (a : Accepted n m t l) (
 
   good-boxes : Each (Good n) (w .all-boxes)
   unfolding measure inBinary64
-  good-boxes = boxes-good n m whole (both-all coordinate (fits binary64) (m .coords) (a .coordinates) f)
+  good-boxes = boxes-good n m whole (both-all coordinate (fits binary64) (m .points) (a .coordinates) f)
 
   count : length (w .all-boxes) ≡ cellCount n m
   unfolding measure

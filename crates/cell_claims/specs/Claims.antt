@@ -21,7 +21,7 @@ use Rattle.mesh.specs.Mesh.{Mesh}
 -- every coordinate is a binary64 value, as every f64 is
 unfoldable pub inBinary64 : Mesh → Bool
 unfolding all fits
-inBinary64 m = all (fits binary64) (m .coords)
+inBinary64 m = all (fits binary64) (m .points)
 
 -- An index that the build wrote passes 13 of the search on that mesh, with the lists as the build left them.
 abbrev pub BuiltIsSound : Type 0

@@ -103,7 +103,7 @@ module _ (g : GridCells) (m : Mesh) (l : Lent) (zeta x : List Float) where
   damage = refuse 13 (not (soundIndex g m l)) ∷ []
 
   abbrev positions : List Test
-  positions = positionTests g (m .coords) (length zeta) x
+  positions = positionTests g (m .points) (length zeta) x
 
   abbrev ratio : List Test
   ratio = refuse 17 (overshoots (containersOf g) x) ∷ []
@@ -158,7 +158,7 @@ module _ (g : GridCells) (m : Mesh) (l : Lent) (zeta x : List Float) where
         after-damage = after-lists ∙ rw s
 
         -- 25, 2, 3, 11
-        module _ (b : ℕ) (eb : b ≡ code (fault (positionTests g (m .coords) (length zeta) x))) where
+        module _ (b : ℕ) (eb : b ≡ code (fault (positionTests g (m .points) (length zeta) x))) where
           pub refuse-position : (b ≡ 0 → ⊥) → leaves (Refused b) zeta ≡ cellSearch g m l zeta x
           refuse-position h = turned-away b (after-damage ∙ fault-stop positions ratio b (code-some (fault positions) b eb h))
 

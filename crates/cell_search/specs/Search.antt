@@ -94,7 +94,7 @@ searchTests g m l zeta x =
     ∷ refuse 13 (not (soundIndex g m l))
     ∷ refuse 25 (not (eqb (length zeta) 4))
     ∷ refuse 2 (not (eqb (length x) (g .ndim)))
-    ∷ refuse 3 (not (all coordinate x && all coordinate (m .coords)))
+    ∷ refuse 3 (not (all coordinate x && all coordinate (m .points)))
     ∷ refuse 11 (outside (coords (g .ndim) (g .xmin)) (coords (g .ndim) (g .xmax)) x)
     ∷ refuse 17 (overshoots (containersOf g) x)
     ∷ []

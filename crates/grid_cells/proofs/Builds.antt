@@ -42,7 +42,7 @@ late n m t l =
     let w = measure n m t in
     rowTests (containersOf (index n w t 0)) (isFiled (w .apart) (w .limit)) (w .all-boxes) (length (fileCells (containersOf (index n w t 0)) (isFiled (w .apart) (w .limit)) 0 (w .all-boxes) [])) (length (w .large)) l
 
-tests-are : (n : ℕ) (m : Mesh) (t : Settings) (l : Lent) → buildTests n m t l ≡ early n m l ++ (settingTests (m .coords) t ++ (cellTests (cellCount n m) ++ (frameTests n (measure n m t) t ++ late n m t l)))
+tests-are : (n : ℕ) (m : Mesh) (t : Settings) (l : Lent) → buildTests n m t l ≡ early n m l ++ (settingTests (m .points) t ++ (cellTests (cellCount n m) ++ (frameTests n (measure n m t) t ++ late n m t l)))
 unfolding early late buildTests listTests tooMany settingTests cellTests frameTests divisionTests rowTests tooFar
 tests-are n m t l = refl
 
@@ -81,7 +81,7 @@ module _ (n : ℕ) (m : Mesh) (t : Settings) (l : Lent) where
   unfolding early listTests all
   lists-numbered = refl
 
-  settings-numbered : Numbered (settingTests (m .coords) t)
+  settings-numbered : Numbered (settingTests (m .points) t)
   unfolding settingTests all
   settings-numbered = refl
 
@@ -91,15 +91,15 @@ module _ (n : ℕ) (m : Mesh) (t : Settings) (l : Lent) where
     refuse-lists h =
         refuse-with a
         (ap fault (tests-are n m t l)
-        ∙ fault-stop (early n m l) (settingTests (m .coords) t ++ (cellTests (cellCount n m) ++ (frameTests n (measure n m t) t ++ late n m t l))) a (code-some (fault (early n m l)) a ea h))
+        ∙ fault-stop (early n m l) (settingTests (m .points) t ++ (cellTests (cellCount n m) ++ (frameTests n (measure n m t) t ++ late n m t l))) a (code-some (fault (early n m l)) a ea h))
 
     module _ (za : a ≡ 0) where
       lists-pass : fault (early n m l) ≡ none
       unfolding early
       lists-pass = code-none (early n m l) a lists-numbered ea za
 
-      after-lists : fault (buildTests n m t l) ≡ fault (settingTests (m .coords) t ++ (cellTests (cellCount n m) ++ (frameTests n (measure n m t) t ++ late n m t l)))
-      after-lists = ap fault (tests-are n m t l) ∙ fault-right (early n m l) (settingTests (m .coords) t ++ (cellTests (cellCount n m) ++ (frameTests n (measure n m t) t ++ late n m t l))) lists-pass
+      after-lists : fault (buildTests n m t l) ≡ fault (settingTests (m .points) t ++ (cellTests (cellCount n m) ++ (frameTests n (measure n m t) t ++ late n m t l)))
+      after-lists = ap fault (tests-are n m t l) ∙ fault-right (early n m l) (settingTests (m .points) t ++ (cellTests (cellCount n m) ++ (frameTests n (measure n m t) t ++ late n m t l))) lists-pass
 
       passes : Passed (listTests n m (length (l .keys)) (length (l .cells)) (length (l .large)))
       unfolding early
@@ -115,20 +115,20 @@ module _ (n : ℕ) (m : Mesh) (t : Settings) (l : Lent) where
 
       pub pass-cells : cellCount n m ≤ 65536
       unfolding listTests meshTooLong
-      pass-cells = ltb-false 65536 (cellCount n m) (or-right (ltb 65536 (length (m .coords) / n)) (ltb 65536 (cellCount n m)) (or-left (meshTooLong n m) (tooMany (length (l .keys)) (length (l .cells)) (length (l .large))) (passes .1 .0)))
+      pass-cells = ltb-false 65536 (cellCount n m) (or-right (ltb 65536 (length (m .points) / n)) (ltb 65536 (cellCount n m)) (or-left (meshTooLong n m) (tooMany (length (l .keys)) (length (l .cells)) (length (l .large))) (passes .1 .0)))
 
       pub pass-rows : length (l .cells) ≡ length (l .keys)
       unfolding listTests
       pass-rows = eqb-true (length (l .cells)) (length (l .keys)) (not-false (eqb (length (l .cells)) (length (l .keys))) (passes .1 .1 .0))
 
       -- ---- 3, 8, 9, 20, 21
-      module _ (b : ℕ) (eb : b ≡ code (fault (settingTests (m .coords) t))) where
+      module _ (b : ℕ) (eb : b ≡ code (fault (settingTests (m .points) t))) where
         pub refuse-settings : (b ≡ 0 → ⊥) → Gives (build n m t l) (Refused b) (l .keys) (l .cells) (l .large)
-        refuse-settings h = refuse-with b (after-lists ∙ fault-stop (settingTests (m .coords) t) (cellTests (cellCount n m) ++ (frameTests n (measure n m t) t ++ late n m t l)) b (code-some (fault (settingTests (m .coords) t)) b eb h))
+        refuse-settings h = refuse-with b (after-lists ∙ fault-stop (settingTests (m .points) t) (cellTests (cellCount n m) ++ (frameTests n (measure n m t) t ++ late n m t l)) b (code-some (fault (settingTests (m .points) t)) b eb h))
 
         module _ (zb : b ≡ 0) where
           after-settings : fault (buildTests n m t l) ≡ fault (cellTests (cellCount n m) ++ (frameTests n (measure n m t) t ++ late n m t l))
-          after-settings = after-lists ∙ fault-right (settingTests (m .coords) t) (cellTests (cellCount n m) ++ (frameTests n (measure n m t) t ++ late n m t l)) (code-none (settingTests (m .coords) t) b settings-numbered eb zb)
+          after-settings = after-lists ∙ fault-right (settingTests (m .points) t) (cellTests (cellCount n m) ++ (frameTests n (measure n m t) t ++ late n m t l)) (code-none (settingTests (m .points) t) b settings-numbered eb zb)
 
           -- ---- 18
           module _ (c : ℕ) (ec : c ≡ cellCount n m) where

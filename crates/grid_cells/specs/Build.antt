@@ -144,7 +144,7 @@ buildTests n m t l =
     ∷ refuse 24 (meshTooLong n m || lentTooLong l)
     ∷ refuse 13 (not (eqb (length (l .cells)) (length (l .keys))))
     ∷ refuse 19 (brokenMesh n m)
-    ∷ refuse 3 (not (all coordinate (m .coords) && settingsOk t))
+    ∷ refuse 3 (not (all coordinate (m .points) && settingsOk t))
     ∷ refuse 8 (le (t .tolerance) zeroF)
     ∷ refuse 9 (lt (t .«border_tol») zeroF)
     ∷ refuse 20 (notPart (t .«large_cutoff»))

@@ -18,7 +18,7 @@ use Rattle.cell_sizes.specs.Large.{measure}
 use Rattle.grid_cells.specs.Build.{settingsOf, Lent, Build, Made, make, build}
 
 unfoldable pub triangle : Mesh
-triangle = record { coords = zeroF ∷ zeroF ∷ pow2 2 ∷ zeroF ∷ zeroF ∷ pow2 2 ∷ []; corners = 0 ∷ 1 ∷ 2 ∷ [] }
+triangle = record { points = zeroF ∷ zeroF ∷ pow2 2 ∷ zeroF ∷ zeroF ∷ pow2 2 ∷ []; corners = 0 ∷ 1 ∷ 2 ∷ [] }
 
 unfoldable pub defaults : Settings
 unfolding settingsOf

@@ -45,12 +45,12 @@ module _ (n : ℕ) (m : Mesh) (c k : ℕ) where
     no-cell l h = rw (e, le-leb k n l, le-ltb c (length (m .corners) / (n + 1)) h)
 
     module _ (l : k ≤ n) (h : c < length (m .corners) / (n + 1)) where
-      pub no-point : length (m .coords) / n ≤ getD (m .corners) (c * (n + 1) + k) 0 → refused 19 ≡ cornerOf n m c k
+      pub no-point : length (m .points) / n ≤ getD (m .corners) (c * (n + 1) + k) 0 → refused 19 ≡ cornerOf n m c k
       unfolding cornerOf
-      no-point q = rw (e, le-leb k n l, lt-ltb c (length (m .corners) / (n + 1)) h, le-leb (length (m .coords) / n) (getD (m .corners) (c * (n + 1) + k) 0) q)
+      no-point q = rw (e, le-leb k n l, lt-ltb c (length (m .corners) / (n + 1)) h, le-leb (length (m .points) / n) (getD (m .corners) (c * (n + 1) + k) 0) q)
 
-      pub found : getD (m .corners) (c * (n + 1) + k) 0 < length (m .coords) / n → success (some (positionOf (pointAt n m (getD (m .corners) (c * (n + 1) + k) 0)))) ≡ cornerOf n m c k
+      pub found : getD (m .corners) (c * (n + 1) + k) 0 < length (m .points) / n → success (some (positionOf (pointAt n m (getD (m .corners) (c * (n + 1) + k) 0)))) ≡ cornerOf n m c k
       unfolding cornerOf
       found q =
-          rw (e, le-leb k n l, lt-ltb c (length (m .corners) / (n + 1)) h, lt-leb (length (m .coords) / n) (getD (m .corners) (c * (n + 1) + k) 0) q)
+          rw (e, le-leb k n l, lt-ltb c (length (m .corners) / (n + 1)) h, lt-leb (length (m .points) / n) (getD (m .corners) (c * (n + 1) + k) 0) q)
           (ap (λ (x : List Float). success (some (positionOf x))) (sym (corner-at n m c k l)))

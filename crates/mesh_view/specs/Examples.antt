@@ -10,7 +10,7 @@ use Rattle.mesh_view.specs.View.{countsOf, cornerOf}
 
 -- the last of its corners names no point
 triangle : Mesh
-triangle = record { coords = zeroF ∷ zeroF ∷ pow2 2 ∷ zeroF ∷ zeroF ∷ pow2 2 ∷ []; corners = 0 ∷ 1 ∷ 3 ∷ [] }
+triangle = record { points = zeroF ∷ zeroF ∷ pow2 2 ∷ zeroF ∷ zeroF ∷ pow2 2 ∷ []; corners = 0 ∷ 1 ∷ 3 ∷ [] }
 
 counted : countsOf 2 triangle ≡ record { points = 3; cells = 1 }
 unfolding countsOf triangle

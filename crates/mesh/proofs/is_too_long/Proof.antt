@@ -1,28 +1,23 @@
 -- `mesh::is_too_long` meets its contract. Assumes nothing.
-use native.Mathlib.Omega.{arith}
 use borrow.Author.Tests.{lt-ltb, le-ltb}
+use Rattle.mesh.specs.Mesh.{meshTooLong, pointCount, cellCount}
 use borrow.Author.Needs.{needs}
-use Rattle.geometry.specs.Axes.{few-axes}
-use Rattle.mesh.specs.Mesh.{meshTooLong}
 use Rattle.mesh.proofs.is_too_long.Statement.{statement}
 use Rattle.mesh.proofs.is_too_long.Tie as tie
 
-div-if1 : tie.Need-div-if1
-div-if1 c = omega (arith, few-axes (c .args .ndim) (c .pre))
+point-count-requires : tie.Need-point-count-requires
+point-count-requires c κs = search needs
 
-add-result : tie.Need-add-result
-add-result c = omega (arith, few-axes (c .before .args .ndim) (c .before .pre))
-
-div-result : tie.Need-div-result
-div-result c = search needs
+cell-count-requires : tie.Need-cell-count-requires
+cell-count-requires c κs = search needs
 
 returns : tie.Need-returns
-unfolding meshTooLong
-returns c = rw (lt-ltb _ _ (c .if1 .taken))
+unfolding meshTooLong pointCount cellCount
+returns c = rw (← c .before .point-count .ensures, lt-ltb _ _ (c .if1 .taken))
 
 returns-2 : tie.Need-returns-2
-unfolding meshTooLong
-returns-2 c = rw (le-ltb _ _ (c .if1 .left))
+unfolding meshTooLong pointCount cellCount
+returns-2 c = rw (← c .before .before .point-count .ensures, le-ltb _ _ (c .before .if1 .left), ← c .cell-count .ensures)
 
 pub is-too-long-spec : {M : Type 1} → statement M
-is-too-long-spec = tie.close (tie.spec div-if1 add-result div-result returns returns-2)
+is-too-long-spec = tie.close (tie.spec point-count-requires cell-count-requires returns returns-2)
