@@ -17,20 +17,20 @@ use Rattle.cell_sizes.specs.Large.{measure}
 use Rattle.grid_cells.specs.declared.GridCells.{GridCells}
 use Rattle.grid_cells.specs.declared.Built.{Built}
 use Rattle.grid_cells.specs.declared.Built.the-variants.{Index, Refused}
-use Rattle.grid_cells.specs.Build.{Lent, Build, lentTooLong, make, settle, buildTests, build, built, Gives}
+use Rattle.grid_cells.specs.Build.{IndexLists, Build, listsTooLong, make, settle, buildTests, build, built, Gives}
 use Rattle.grid_cells.specs.Steps.{tooMany, listTests}
 use Rattle.capi.specs.Answers.{number, written}
 use Rattle.capi.specs.Cells.{cellsNumbers, cellsFloats, cellsTests, cellsListTests, buildInC, ToldCells}
 
 -- ---- the tests before the call, and those of the call
 
-module _ (n : ℕ) (m : Mesh) (t : Settings) (l : Lent) (numbers : List ℕ) (floats : List Float) where
+module _ (n : ℕ) (m : Mesh) (t : Settings) (l : IndexLists) (numbers : List ℕ) (floats : List Float) where
   -- 1, 24, and 13 by the index lists
   abbrev front : List Test
   front = cellsListTests n m (length (l .keys)) (length (l .cells)) (length (l .large)) numbers floats
 
   in-front : cellsTests n m t l numbers floats ≡ front ++ drop 2 (buildTests n m t l)
-  unfolding cellsTests cellsListTests listTests buildTests tooMany lentTooLong
+  unfolding cellsTests cellsListTests listTests buildTests tooMany listsTooLong
   in-front = refl
 
   -- 1 and 24
@@ -38,7 +38,7 @@ module _ (n : ℕ) (m : Mesh) (t : Settings) (l : Lent) (numbers : List ℕ) (fl
   two = take 2 (listTests n m (length (l .keys)) (length (l .cells)) (length (l .large)))
 
   two-first : buildTests n m t l ≡ two ++ drop 2 (buildTests n m t l)
-  unfolding listTests buildTests tooMany lentTooLong
+  unfolding listTests buildTests tooMany listsTooLong
   two-first = refl
 
   -- where none of them fails, the first test of the build that fails is that of the call
@@ -89,9 +89,9 @@ module _ (n : ℕ) (m : Mesh) (t : Settings) (l : Lent) (numbers : List ℕ) (fl
           let a : success grid ≡ buildInC n m t l numbers floats .answer = sym (ap built f) ∙ answered in
           record {
             returned = ap number a;
-            keys-are = ap (λ (x : Lent). x .keys) left;
-            cells-are = ap (λ (x : Lent). x .cells) left;
-            large-are = ap (λ (x : Lent). x .large) left;
+            keys-are = ap (λ (x : IndexLists). x .keys) left;
+            cells-are = ap (λ (x : IndexLists). x .cells) left;
+            large-are = ap (λ (x : IndexLists). x .large) left;
             numbers-written = p ∙ ap (λ (x : Answer GridCells). written (through cellsNumbers x) numbers) a;
             floats-written = q ∙ ap (λ (x : Answer GridCells). written (through cellsFloats x) floats) a;
           }
@@ -101,9 +101,9 @@ module _ (n : ℕ) (m : Mesh) (t : Settings) (l : Lent) (numbers : List ℕ) (fl
         let a : refused k ≡ buildInC n m t l numbers floats .answer = sym (ap built f) ∙ answered in
         record {
           returned = ap number a;
-          keys-are = ap (λ (x : Lent). x .keys) left;
-          cells-are = ap (λ (x : Lent). x .cells) left;
-          large-are = ap (λ (x : Lent). x .large) left;
+          keys-are = ap (λ (x : IndexLists). x .keys) left;
+          cells-are = ap (λ (x : IndexLists). x .cells) left;
+          large-are = ap (λ (x : IndexLists). x .large) left;
           numbers-written = ap (λ (x : Answer GridCells). written (through cellsNumbers x) numbers) a;
           floats-written = ap (λ (x : Answer GridCells). written (through cellsFloats x) floats) a;
         }

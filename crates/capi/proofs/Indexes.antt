@@ -10,7 +10,7 @@ use lib.Ieee.{Float, le}
 use borrow.Author.Tests.{eq-eqb, ne-eqb}
 use Rattle.mesh.specs.Mesh.{Mesh}
 use Rattle.grid_cells.specs.declared.GridCells.{GridCells}
-use Rattle.grid_cells.specs.Build.{Lent}
+use Rattle.grid_cells.specs.Build.{IndexLists}
 use Rattle.cell_search.specs.declared.FoundCell.{FoundCell}
 use Rattle.cell_search.specs.declared.FoundCell.the-variants.{Cell, Nothing, Refused}
 use Rattle.cell_search.specs.Search.{goodIndex, soundIndex, CellSearch, foundCell, leaves}
@@ -39,7 +39,7 @@ module _ (numbers : List ℕ) (floats : List Float) where
   both-lists h k = rw (eq-eqb _ _ h, eq-eqb _ _ k)
 
   -- 13
-  pub other-lengths : cellsLengths numbers floats ≡ false → (m : Mesh) (l : Lent) → soundIndex (indexOf numbers floats) m l ≡ false
+  pub other-lengths : cellsLengths numbers floats ≡ false → (m : Mesh) (l : IndexLists) → soundIndex (indexOf numbers floats) m l ≡ false
   unfolding indexOf soundIndex goodIndex le
   other-lengths e m l = rw e
 

@@ -12,7 +12,7 @@ use Rattle.mesh.specs.Mesh.{Mesh}
 use Rattle.cell_sizes.specs.declared.Settings.{Settings}
 use Rattle.cell_sizes.specs.Large.{measure}
 use Rattle.grid_cells.specs.declared.GridCells.{GridCells}
-use Rattle.grid_cells.specs.Build.{Lent, Build, make, settle, buildTests}
+use Rattle.grid_cells.specs.Build.{IndexLists, Build, make, settle, buildTests}
 use Rattle.grid_cells.specs.Steps.{listTests}
 use Rattle.capi.specs.Answers.{number, written}
 
@@ -28,14 +28,14 @@ abbrev pub cellsLengths : List ℕ → List Float → Bool
 cellsLengths numbers floats = eqb (length numbers) 6 && eqb (length floats) 7
 
 -- what turns the call away: 1, 24, then 13 for an index list of another length, then the other tests of a build
-unfoldable pub cellsTests : ℕ → Mesh → Settings → Lent → List ℕ → List Float → List Test
+unfoldable pub cellsTests : ℕ → Mesh → Settings → IndexLists → List ℕ → List Float → List Test
 unfolding buildTests
 cellsTests n m t l numbers floats =
     let tests = buildTests n m t l in
     take 2 tests ++ refuse 13 (not (cellsLengths numbers floats)) ∷ drop 2 tests
 
 -- the build, with the index in two lists
-unfoldable pub buildInC : ℕ → Mesh → Settings → Lent → List ℕ → List Float → Build
+unfoldable pub buildInC : ℕ → Mesh → Settings → IndexLists → List ℕ → List Float → Build
 unfolding settle fault cellsTests make measure
 buildInC n m t l numbers floats = settle (fault (cellsTests n m t l numbers floats)) (make n (measure n m t) t) l
 

@@ -3,7 +3,7 @@ ghost use mathlib.Core.Path.{_≡_};
 ghost use lib.ListN.{length};
 ghost use Rattle.basics.specs.Refusals.{fault, code};
 ghost use Rattle.mesh.specs.Mesh.{meshOf};
-ghost use Rattle.grid_cells.specs.Build.{settingsOf, lentOf};
+ghost use Rattle.grid_cells.specs.Build.{settingsOf, indexLists};
 ghost use Rattle.capi.specs.Sheets.{givenFloat};
 ghost use Rattle.capi.specs.Cells.{cellsNumbers, cellsFloats, cellsListTests, buildInC, ToldCells};
 use crate::sheet::given_float;
@@ -94,7 +94,7 @@ pub extern "C" fn gemlab_grid_cells_new(
 ) -> u64
     ensures { λ r. ⌜ ToldCells (buildInC ndim (meshOf (now (coords .entry)) (now (corners .entry)))
         (settingsOf (givenFloat «tolerance_given» tolerance) (givenFloat «border_tol_given» «border_tol») (givenFloat «large_cutoff_given» «large_cutoff») (givenFloat «large_pct_given» «large_pct»))
-        (lentOf (now (keys .entry)) (now (cells .entry)) (now (large .entry))) (now (numbers .entry)) (now (floats .entry)))
+        (indexLists (now (keys .entry)) (now (cells .entry)) (now (large .entry))) (now (numbers .entry)) (now (floats .entry)))
         r (now (keys .exit)) (now (cells .exit)) (now (large .exit)) (now (numbers .entry)) (now (numbers .exit)) (now (floats .entry)) (now (floats .exit)) ⌝ }
 {
     let ndim = ndim as usize;

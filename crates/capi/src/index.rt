@@ -2,7 +2,7 @@
 ghost use mathlib.Core.Path.{_≡_};
 ghost use lib.ListN.{length, getD};
 ghost use Rattle.mesh.specs.Mesh.{meshOf};
-ghost use Rattle.grid_cells.specs.Build.{lentOf};
+ghost use Rattle.grid_cells.specs.Build.{indexLists};
 ghost use Rattle.cell_search.specs.Search.{cellSearch};
 ghost use Rattle.capi.specs.Indexes.{readIndex, noIndex, indexOf, ToldCell};
 use crate::cells::FLOATS;
@@ -96,7 +96,7 @@ pub extern "C" fn gemlab_grid_cells_search(
     cell: &mut u64,
 ) -> u64
     ensures { λ r. ⌜ ToldCell (cellSearch (indexOf (now (numbers .entry)) (now (floats .entry))) (meshOf (now (coords .entry)) (now (corners .entry)))
-        (lentOf (now (keys .entry)) (now (cells .entry)) (now (large .entry))) (now (zeta .entry)) (now (x .entry)))
+        (indexLists (now (keys .entry)) (now (cells .entry)) (now (large .entry))) (now (zeta .entry)) (now (x .entry)))
         r (now (zeta .exit)) (now (found .entry)) (now (found .exit)) (now (cell .entry)) (now (cell .exit)) ⌝ }
 {
     let grid = index_of(numbers, floats);

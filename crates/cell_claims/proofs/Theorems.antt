@@ -23,10 +23,10 @@ use Rattle.table.specs.Rows.{Slot}
 use Rattle.cell_sizes.specs.declared.Settings.{Settings}
 use Rattle.cell_sizes.specs.Large.{Measured, measure, boxes, isLarge, isFiled}
 use Rattle.cell_sizes.proofs.Boxes.{length-boxes}
-use Rattle.cell_rows.specs.Filing.{cellKey, boxCorners, overshootsBox}
+use Rattle.cell_rows.specs.Filing.{cellKey, boxCorners, boxExceeds}
 use Rattle.cell_rows.proofs.Over.{take-over, length-over}
 use Rattle.grid_cells.specs.declared.GridCells.{GridCells}
-use Rattle.grid_cells.specs.Build.{Lent, lentTooLong, Made, make, index, containersOf, lowCorner, highCorner, cellSide, settingsOk, buildTests, settle, build}
+use Rattle.grid_cells.specs.Build.{IndexLists, listsTooLong, FiledIndex, make, index, containersOf, lowCorner, highCorner, cellSide, settingsOk, buildTests, settle, build}
 use Rattle.grid_cells.proofs.Ways.{divided}
 use Rattle.sorting.specs.Ascent.{ascending}
 use Rattle.cell_search.specs.Search.{goodIndex, goodSlot, soundIndex, cellRows, largeCells, searchTests}
@@ -36,9 +36,9 @@ use Rattle.cell_claims.proofs.Frames.{Limits, limits, Sided, sided, Par
 use Rattle.cell_claims.proofs.Filed.{Filed, any-none, none-filed, cells-filed, corner-keys, numbered-ascending, numbered-below, read-back}
 
 -- ---- the tests that a build passed, by name
-record Accepted (n : ℕ) (m : Mesh) (t : Settings) (l : Lent) : Type 0 where
+record Accepted (n : ℕ) (m : Mesh) (t : Settings) (l : IndexLists) : Type 0 where
   pub axes : dimension n ≡ true
-  pub short : (meshTooLong n m || lentTooLong l) ≡ false
+  pub short : (meshTooLong n m || listsTooLong l) ≡ false
   pub lengths : length (l .cells) ≡ length (l .keys)
   pub whole : brokenMesh n m ≡ false
   pub coordinates : all coordinate (m .points) ≡ true
@@ -47,11 +47,11 @@ record Accepted (n : ℕ) (m : Mesh) (t : Settings) (l : Lent) : Type 0 where
   pub bordered : lt (t .«border_tol») zeroF ≡ false
   pub some-cells : cellCount n m ≡ 0 → ⊥
   pub divisions : all division (counts n (make n (measure n m t) t .grid .ndiv)) ≡ true
-  pub inside : any (λ (b : Box). isFiled (measure n m t .apart) (measure n m t .limit) b && overshootsBox (containersOf (make n (measure n m t) t .grid)) b) (measure n m t .all-boxes) ≡ false
+  pub inside : any (λ (b : Box). isFiled (measure n m t .apart) (measure n m t .limit) b && boxExceeds (containersOf (make n (measure n m t) t .grid)) b) (measure n m t .all-boxes) ≡ false
   pub rows-fit : length (make n (measure n m t) t .rows) ≤ length (l .keys)
   pub large-fit : length (make n (measure n m t) t .large) ≤ length (l .large)
 
-accepted : (n : ℕ) (m : Mesh) (t : Settings) (l : Lent) → fault (buildTests n m t l) ≡ none → Accepted n m t l
+accepted : (n : ℕ) (m : Mesh) (t : Settings) (l : IndexLists) → fault (buildTests n m t l) ≡ none → Accepted n m t l
 unfolding buildTests
 accepted n m t l e = go (unrefused (buildTests n m t l) e)
   where
@@ -99,11 +99,11 @@ each-with : (P Q : List Float → Type 0) (xs : List (List Float)) → ((x : Lis
 each-with P Q [] f h = tt
 each-with P Q (x ∷ xs) f h = (f x (h .0), each-with P Q xs f (h .1))
 
-module _ (n : ℕ) (m : Mesh) (t : Settings) (l : Lent) (a : Accepted n m t l) (f : inBinary64 m ≡ true) where
+module _ (n : ℕ) (m : Mesh) (t : Settings) (l : IndexLists) (a : Accepted n m t l) (f : inBinary64 m ≡ true) where
   abbrev w : Measured
   w = measure n m t
 
-  abbrev k : Made
+  abbrev k : FiledIndex
   k = make n w t
 
   abbrev low : List Float
@@ -161,12 +161,12 @@ module _ (n : ℕ) (m : Mesh) (t : Settings) (l : Lent) (a : Accepted n m t l) (
       let p = isFiled (w .apart) (w .limit) in
       cells-filed (goodSlot (k .grid) (cellCount n m)) g p 0 (w .all-boxes) []
       (λ i h j.
-      each-both (Good n) (λ (b : Box). (p b && overshootsBox g b) ≡ false) (λ (b : Box). p b ≡ true → Each (λ (x : List Float). goodSlot (k .grid) (cellCount n m) (record { key = cellKey g x; id = i }) ≡ true) (boxCorners b)) (w .all-boxes)
+      each-both (Good n) (λ (b : Box). (p b && boxExceeds g b) ≡ false) (λ (b : Box). p b ≡ true → Each (λ (x : List Float). goodSlot (k .grid) (cellCount n m) (record { key = cellKey g x; id = i }) ≡ true) (boxCorners b)) (w .all-boxes)
       (λ b good none-over is.
       each-with (λ (x : List Float). ltb (cellKey g x) (containers (counts n (k .grid .ndiv))) ≡ true) (λ (x : List Float). goodSlot (k .grid) (cellCount n m) (record { key = cellKey g x; id = i }) ≡ true) (boxCorners b)
       (λ x e. both e (lt-ltb i (cellCount n m) (omega (arith, j, count))))
       (corner-keys g b good (ap length (r .divisions) ∙ r .divisions-length) (ap length (r .xmin) ∙ r .xmin-length) (a .divisions) (rw is at none-over)))
-      good-boxes (any-none (λ (b : Box). p b && overshootsBox g b) (w .all-boxes) (a .inside)))
+      good-boxes (any-none (λ (b : Box). p b && boxExceeds g b) (w .all-boxes) (a .inside)))
       (none-filed (goodSlot (k .grid) (cellCount n m)))
 
   large-below : all (λ (c : ℕ). ltb c (cellCount n m)) (w .large) ≡ true
@@ -207,9 +207,9 @@ module _ (n : ℕ) (m : Mesh) (t : Settings) (l : Lent) (a : Accepted n m t l) (
       (both (filed .good) (both (filed .order) (both large-below large-ascending)))))))
 
   serves : (zeta x : List Float) → fault (searchTests (k .grid) m (settle none k l .lent) zeta x) ≡ fault (askedTests (k .grid) zeta x)
-  unfolding searchTests askedTests fault lentTooLong make settle
+  unfolding searchTests askedTests fault listsTooLong make settle
   serves zeta x =
-      let s : (meshTooLong (k .grid .ndim) m || lentTooLong (settle none k l .lent)) ≡ false = rw (keys-length, cells-length, large-length) (a .short) in
+      let s : (meshTooLong (k .grid .ndim) m || listsTooLong (settle none k l .lent)) ≡ false = rw (keys-length, cells-length, large-length) (a .short) in
       rw (a .axes, s, a .whole, sound, a .coordinates, and-true (all coordinate x))
 
 -- ---- the claims
@@ -220,7 +220,7 @@ success-is : {A : Type 0} (g h : A) → _≡_ {A = Answer A} (success g) (succes
 success-is g h e = cc
 
 -- what holds of the index made by a build that was not refused holds of every index that a build gives
-module _ (n : ℕ) (m : Mesh) (t : Settings) (l : Lent) (P : GridCells → Lent → Type 0) (of-made : Accepted n m t l → P (make n (measure n m t) t .grid) (settle none (make n (measure n m t) t) l .lent)) where
+module _ (n : ℕ) (m : Mesh) (t : Settings) (l : IndexLists) (P : GridCells → IndexLists → Type 0) (of-made : Accepted n m t l → P (make n (measure n m t) t .grid) (settle none (make n (measure n m t) t) l .lent)) where
   of-built : (g : GridCells) → build n m t l .answer ≡ success g → P g (build n m t l .lent)
   unfolding build settle
   of-built g e = go (fault (buildTests n m t l)) refl e
@@ -230,7 +230,7 @@ module _ (n : ℕ) (m : Mesh) (t : Settings) (l : Lent) (P : GridCells → Lent 
       go none h e = subst (λ (i : GridCells). P i (settle none (make n (measure n m t) t) l .lent)) (success-is (make n (measure n m t) t .grid) g e) (of-made (accepted n m t l h))
 
 pub built-is-sound : BuiltIsSound
-built-is-sound n m t l g f e = of-built n m t l (λ (g : GridCells) (k : Lent). soundIndex g m k ≡ true) (λ a. sound n m t l a f) g e
+built-is-sound n m t l g f e = of-built n m t l (λ (g : GridCells) (k : IndexLists). soundIndex g m k ≡ true) (λ a. sound n m t l a f) g e
 
 pub built-serves : BuiltServes
-built-serves n m t l g f e zeta x = of-built n m t l (λ (g : GridCells) (k : Lent). fault (searchTests g m k zeta x) ≡ fault (askedTests g zeta x)) (λ a. serves n m t l a f zeta x) g e
+built-serves n m t l g f e zeta x = of-built n m t l (λ (g : GridCells) (k : IndexLists). fault (searchTests g m k zeta x) ≡ fault (askedTests g zeta x)) (λ a. serves n m t l a f zeta x) g e

@@ -21,7 +21,7 @@ use Rattle.mesh.specs.Mesh.{Mesh, Box, cellCount, boxOf, boxed, joinedBox, fold
 use Rattle.cell_sizes.specs.declared.Settings.{Settings}
 use Rattle.cell_sizes.specs.declared.Extent.{Extent}
 use Rattle.cell_sizes.specs.declared.Census.{Census}
-use Rattle.cell_sizes.specs.Large.{boxes, longestOf, isLarge, numbered, measure}
+use Rattle.cell_sizes.specs.Large.{boxes, longestOf, isLarge, numbered, largeOf, measure}
 use Rattle.cell_sizes.specs.Steps.{Widened, Around, counted, Counted, Sized}
 use Rattle.cell_sizes.proofs.Boxes.{length-boxes, boxes-next, boxes-end}
 
@@ -184,7 +184,7 @@ module _ (n : ℕ) (m : Mesh) (t : Settings) where
   measured-apart = refl
 
   measured-large : measure n m t .large ≡ cond (measure n m t .apart) (numbered (isLarge (measure n m t .limit)) 0 (boxes n m)) []
-  unfolding measure
+  unfolding measure largeOf
   measured-large = refl
 
   measured-longest : measure n m t .longest ≡ cond (measure n m t .apart) (longestOf (keep (isSmall (measure n m t .limit)) (boxes n m))) (longestOf (boxes n m))

@@ -43,7 +43,7 @@ pub fn is_too_long(ndim: usize, coords: &[f64], corners: &[u32]) -> bool
     requires { ⌜ dimension ndim ≡ true ⌝ }
     ensures { λ r. ⌜ r ≡ meshTooLong ndim (meshOf (now (coords .entry)) (now (corners .entry))) ⌝ }
 {
-    point_count(ndim, coords) > 65536 || cell_count(ndim, corners) > 65536
+    (point_count(ndim, coords) > 65536) | (cell_count(ndim, corners) > 65536)
 }
 
 // The number of a point, as an index.

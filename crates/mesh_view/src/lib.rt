@@ -4,7 +4,7 @@ ghost use Prim.Native.Nat.{_+_, _*_, _/_, _<_, _≤_};
 ghost use mathlib.Core.Path.{_≡_};
 ghost use lib.ListN.{length, getD};
 ghost use Rattle.mesh.specs.Mesh.{meshOf};
-ghost use Rattle.grid_cells.specs.Build.{settingsOf, lentOf, build, Gives};
+ghost use Rattle.grid_cells.specs.Build.{settingsOf, indexLists, build, Gives};
 ghost use Rattle.cell_search.specs.Search.{cellSearch, leaves};
 ghost use Rattle.mesh_view.specs.View.{countsOf, cornerAnswer, cornerOf};
 use cell_search::FoundCell;
@@ -128,7 +128,7 @@ impl<'a, 'b> Mesh<'a, 'b> {
         cells: &mut [u64],
         large: &mut [u64],
     ) -> Built
-        ensures { λ r. ⌜ Gives (build (self .entry .ndim) (meshOf (now (self .entry .coords)) (now (self .entry .corners))) (settingsOf tolerance «border_tol» «large_cutoff» «large_pct») (lentOf (now (keys .entry)) (now (cells .entry)) (now (large .entry)))) r (now (keys .exit)) (now (cells .exit)) (now (large .exit)) ⌝ }
+        ensures { λ r. ⌜ Gives (build (self .entry .ndim) (meshOf (now (self .entry .coords)) (now (self .entry .corners))) (settingsOf tolerance «border_tol» «large_cutoff» «large_pct») (indexLists (now (keys .entry)) (now (cells .entry)) (now (large .entry)))) r (now (keys .exit)) (now (cells .exit)) (now (large .exit)) ⌝ }
     {
         GridCells::new(
             self.ndim,
@@ -154,7 +154,7 @@ impl<'a, 'b> Mesh<'a, 'b> {
         x: &[f64],
         zeta: &mut [f64],
     ) -> FoundCell
-        ensures { λ r. ⌜ leaves r (now (zeta .exit)) ≡ cellSearch grid (meshOf (now (self .entry .coords)) (now (self .entry .corners))) (lentOf (now (keys .entry)) (now (cells .entry)) (now (large .entry))) (now (zeta .entry)) (now (x .entry)) ⌝ }
+        ensures { λ r. ⌜ leaves r (now (zeta .exit)) ≡ cellSearch grid (meshOf (now (self .entry .coords)) (now (self .entry .corners))) (indexLists (now (keys .entry)) (now (cells .entry)) (now (large .entry))) (now (zeta .entry)) (now (x .entry)) ⌝ }
     {
         cell_search::search(grid, self.coords, self.corners, keys, cells, large, x, zeta)
     }
@@ -173,7 +173,7 @@ pub fn build(
     cells: &mut [u64],
     large: &mut [u64],
 ) -> Built
-    ensures { λ r. ⌜ Gives (build ndim (meshOf (now (coords .entry)) (now (corners .entry))) (settingsOf tolerance «border_tol» «large_cutoff» «large_pct») (lentOf (now (keys .entry)) (now (cells .entry)) (now (large .entry)))) r (now (keys .exit)) (now (cells .exit)) (now (large .exit)) ⌝ }
+    ensures { λ r. ⌜ Gives (build ndim (meshOf (now (coords .entry)) (now (corners .entry))) (settingsOf tolerance «border_tol» «large_cutoff» «large_pct») (indexLists (now (keys .entry)) (now (cells .entry)) (now (large .entry)))) r (now (keys .exit)) (now (cells .exit)) (now (large .exit)) ⌝ }
 {
     Mesh::new(ndim, coords, corners).grid_cells(
         tolerance,
@@ -197,7 +197,7 @@ pub fn search(
     x: &[f64],
     zeta: &mut [f64],
 ) -> FoundCell
-    ensures { λ r. ⌜ leaves r (now (zeta .exit)) ≡ cellSearch grid (meshOf (now (coords .entry)) (now (corners .entry))) (lentOf (now (keys .entry)) (now (cells .entry)) (now (large .entry))) (now (zeta .entry)) (now (x .entry)) ⌝ }
+    ensures { λ r. ⌜ leaves r (now (zeta .exit)) ≡ cellSearch grid (meshOf (now (coords .entry)) (now (corners .entry))) (indexLists (now (keys .entry)) (now (cells .entry)) (now (large .entry))) (now (zeta .entry)) (now (x .entry)) ⌝ }
 {
     Mesh::new(grid.ndim, coords, corners).search(grid, keys, cells, large, x, zeta)
 }

@@ -14,10 +14,13 @@ corner-keys-requires : tie.Need-corner-keys-requires
 corner-keys-requires c κs = search needs
 
 returns : tie.Need-returns
-returns c = let s = c .before .before .before .before in cell-filed (s .args .grid) (isFiled (s .args .sizes .apart) (s .args .sizes .limit)) (boxed (s .args .grid .ndim) (s .args .b)) (c .corner-keys .result) (c .corner-keys .last .1 .1 .0) (sym (c .before .before .before .is-filed .ensures) ∙ c .before .before .if1 .taken) (c .corner-keys .ensures)
+returns c = let s = c .before .before .before .before in
+    cell-filed (s .args .grid) (isFiled (s .args .sizes .apart) (s .args .sizes .limit)) (boxed (s .args .grid .ndim) (s .args .b))
+    (sym (c .before .before .before .is-filed .ensures) ∙ c .before .before .if1 .taken) (c .corner-keys .ensures)
 
 returns-2 : tie.Need-returns-2
-returns-2 c = let s = c .before .before in cell-none (s .args .grid) (isFiled (s .args .sizes .apart) (s .args .sizes .limit)) (boxed (s .args .grid .ndim) (s .args .b)) (s .args .keys .now) (s .pre .1) (sym (c .before .is-filed .ensures) ∙ c .if1 .left)
+returns-2 c = let s = c .before .before in
+    cell-none (s .args .grid) (isFiled (s .args .sizes .apart) (s .args .sizes .limit)) (boxed (s .args .grid .ndim) (s .args .b)) (s .pre .1) (sym (c .before .is-filed .ensures) ∙ c .if1 .left)
 
 pub cell-keys-spec : {M : Type 1} → statement M
 cell-keys-spec = tie.close (tie.spec is-filed-requires corner-keys-requires returns returns-2)

@@ -1,6 +1,6 @@
 -- `cell_rows::write_large` meets its contract. Assumes nothing.
 use borrow.Author.Needs.{needs}
-use Rattle.cell_rows.specs.Steps.{largeOf}
+use Rattle.cell_sizes.specs.Large.{largeOf}
 use Rattle.basics.specs.Lists.{over}
 use Rattle.cell_rows.proofs.write_large.Statement.{statement}
 use Rattle.cell_rows.proofs.write_large.Tie as tie

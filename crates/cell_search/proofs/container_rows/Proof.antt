@@ -14,7 +14,9 @@ first-of-requires-2 : tie.Need-first-of-requires-2
 first-of-requires-2 c κs = search needs
 
 returns : tie.Need-returns
-returns c = container-part (c .before .before .before .before .args .keys .now) (c .before .before .before .before .args .cells .now) (c .before .before .before .before .args .used) (c .before .before .before .before .args .key) (c .before .first-of .result) (c .first-of2 .result) (c .before .before .before .before .pre .0 .in-ids) (c .before .before .before .before .pre .0 .order) (c .before .first-of .ensures) (c .first-of2 .ensures)
+returns c = let s = c .before .before .before .before in
+    let a = s .args in
+    container-part (a .keys .now) (a .cells .now) (a .used) (a .key) (s .pre .0 .in-ids) (s .pre .0 .order) (c .before .first-of .ensures) (c .first-of2 .ensures)
 
 pub container-rows-spec : {M : Type 1} → statement M
 container-rows-spec =

@@ -7,7 +7,7 @@ use borrow.Author.Needs.{needs}
 use Rattle.basics.specs.Refusals.{fault}
 use Rattle.mesh.specs.Mesh.{meshOf}
 use Rattle.cell_sizes.specs.declared.Settings.{Settings}
-use Rattle.grid_cells.specs.Build.{settingsOf, lentOf, build, Gives}
+use Rattle.grid_cells.specs.Build.{settingsOf, indexLists, build, Gives}
 use Rattle.capi.specs.Sheets.{givenFloat}
 use Rattle.capi.specs.Cells.{cellsListTests}
 use Rattle.capi.proofs.Builds.{passed-front, lengths-of, told-front, told-index, told-refused}
@@ -22,10 +22,10 @@ settings c = settingsOf (givenFloat (c .args .tolerance-given) (c .args .toleran
 front : (c : tie.Else1) → let a = c .before .before .before .before .before .before .before .before .before .before .before .args in fault (cellsListTests (a .ndim) (meshOf (a .coords .now) (a .corners .now)) (length (a .keys .now)) (length (a .cells .now)) (length (a .large .now)) (a .numbers .now) (a .floats .now)) ≡ none
 front c =
     let a = c .before .before .before .before .before .before .before .before .before .before .before .args in
-    passed-front (a .ndim) (meshOf (a .coords .now) (a .corners .now)) (settings (c .before .before .before .before .before .before .before .before .before .before .before)) (lentOf (a .keys .now) (a .cells .now) (a .large .now)) (a .numbers .now) (a .floats .now) (c .before .lists-refused .ensures) (c .if1 .left)
+    passed-front (a .ndim) (meshOf (a .coords .now) (a .corners .now)) (settings (c .before .before .before .before .before .before .before .before .before .before .before)) (indexLists (a .keys .now) (a .cells .now) (a .large .now)) (a .numbers .now) (a .floats .now) (c .before .lists-refused .ensures) (c .if1 .left)
 
 -- what the call ensures, by these settings
-answered : (c : tie.After-build) → let s = c .before .before .before .before .before .before .before .before .before .before .before .before .before .before .before .before .before .before .before in Gives (build (s .args .ndim) (meshOf (s .args .coords .now) (s .args .corners .now)) (settings s) (lentOf (s .args .keys .now) (s .args .cells .now) (s .args .large .now))) (c .build .result) (c .build .last .1 .1 .1 .1 .1 .1 .1 .0) (c .build .last .1 .1 .1 .1 .1 .1 .1 .1 .0) (c .build .last .1 .1 .1 .1 .1 .1 .1 .1 .1 .0)
+answered : (c : tie.After-build) → let s = c .before .before .before .before .before .before .before .before .before .before .before .before .before .before .before .before .before .before .before in Gives (build (s .args .ndim) (meshOf (s .args .coords .now) (s .args .corners .now)) (settings s) (indexLists (s .args .keys .now) (s .args .cells .now) (s .args .large .now))) (c .build .result) (c .build .last .1 .1 .1 .1 .1 .1 .1 .0) (c .build .last .1 .1 .1 .1 .1 .1 .1 .1 .0) (c .build .last .1 .1 .1 .1 .1 .1 .1 .1 .1 .0)
 answered c = rw (c .before .before .before .before .before .before .before .given-float .ensures, c .before .before .before .before .before .before .given-float2 .ensures, c .before .before .before .before .before .given-float3 .ensures, c .before .before .before .before .given-float4 .ensures) at (c .build .ensures)
 
 lists-refused-requires : tie.Need-lists-refused-requires
@@ -40,7 +40,7 @@ same-length-2 c = search needs
 returns : tie.Need-returns
 returns c =
     let s = c .before .before .before .before .before .before .before .before .before .before .before in
-    told-front (s .args .ndim) (meshOf (s .args .coords .now) (s .args .corners .now)) (settings s) (lentOf (s .args .keys .now) (s .args .cells .now) (s .args .large .now)) (s .args .numbers .now) (s .args .floats .now) (c .before .lists-refused .result) (c .before .lists-refused .ensures) (c .if1 .taken)
+    told-front (s .args .ndim) (meshOf (s .args .coords .now) (s .args .corners .now)) (settings s) (indexLists (s .args .keys .now) (s .args .cells .now) (s .args .large .now)) (s .args .numbers .now) (s .args .floats .now) (c .before .lists-refused .result) (c .before .lists-refused .ensures) (c .if1 .taken)
 
 given-float-requires : tie.Need-given-float-requires
 given-float-requires c κs = search needs
@@ -63,12 +63,12 @@ enum-known-answer c = search needs
 write-numbers-requires : tie.Need-write-numbers-requires
 write-numbers-requires c κs =
     let s = c .before .before .before .before .before .before .before .before .before .before .before .before .before .before .before .before .before .before .before .before .before .before .before .before .before .before .before .before .before in
-    lengths-of (s .args .ndim) (meshOf (s .args .coords .now) (s .args .corners .now)) (settings s) (lentOf (s .args .keys .now) (s .args .cells .now) (s .args .large .now)) (s .args .numbers .now) (s .args .floats .now) (front (c .before .before .before .before .before .before .before .before .before .before .before .before .before .before .before .before .before .before)) .0
+    lengths-of (s .args .ndim) (meshOf (s .args .coords .now) (s .args .corners .now)) (settings s) (indexLists (s .args .keys .now) (s .args .cells .now) (s .args .large .now)) (s .args .numbers .now) (s .args .floats .now) (front (c .before .before .before .before .before .before .before .before .before .before .before .before .before .before .before .before .before .before)) .0
 
 write-floats-requires : tie.Need-write-floats-requires
 write-floats-requires c κs =
     let s = c .before .before .before .before .before .before .before .before .before .before .before .before .before .before .before .before .before .before .before .before .before .before .before .before .before .before .before .before .before .before .before .before .before in
-    lengths-of (s .args .ndim) (meshOf (s .args .coords .now) (s .args .corners .now)) (settings s) (lentOf (s .args .keys .now) (s .args .cells .now) (s .args .large .now)) (s .args .numbers .now) (s .args .floats .now) (front (c .before .before .before .before .before .before .before .before .before .before .before .before .before .before .before .before .before .before .before .before .before .before)) .1
+    lengths-of (s .args .ndim) (meshOf (s .args .coords .now) (s .args .corners .now)) (settings s) (indexLists (s .args .keys .now) (s .args .cells .now) (s .args .large .now)) (s .args .numbers .now) (s .args .floats .now) (front (c .before .before .before .before .before .before .before .before .before .before .before .before .before .before .before .before .before .before .before .before .before .before)) .1
 
 enum-known-answer-2 : tie.Need-enum-known-answer-2
 enum-known-answer-2 c = search needs
@@ -91,7 +91,7 @@ same-length-7 c = search needs
 returns-2 : tie.Need-returns-2
 returns-2 c =
     let s = c .before .before .before .before .before .before .before .before .before .before .before .before .before .before .before .before .before .before .before .before .before .before .before .before .before .before .before .before .before .before .before .before .before .before .before .before in
-    told-index (s .args .ndim) (meshOf (s .args .coords .now) (s .args .corners .now)) (settings s) (lentOf (s .args .keys .now) (s .args .cells .now) (s .args .large .now)) (s .args .numbers .now) (s .args .floats .now) (front (c .before .before .before .before .before .before .before .before .before .before .before .before .before .before .before .before .before .before .before .before .before .before .before .before .before)) (answered (c .before .before .before .before .before .before .before .before .before .before .before .before .before .before .before .before .before)) (c .before .before .before .before .before .before .before .before .before .answer .given .0 .0) (c .before .before .before .before .before .before .before .before .before .answer .given .1) (c .before .before .before .before .before .before .write-numbers .ensures) (c .before .before .write-floats .ensures)
+    told-index (s .args .ndim) (meshOf (s .args .coords .now) (s .args .corners .now)) (settings s) (indexLists (s .args .keys .now) (s .args .cells .now) (s .args .large .now)) (s .args .numbers .now) (s .args .floats .now) (front (c .before .before .before .before .before .before .before .before .before .before .before .before .before .before .before .before .before .before .before .before .before .before .before .before .before)) (answered (c .before .before .before .before .before .before .before .before .before .before .before .before .before .before .before .before .before)) (c .before .before .before .before .before .before .before .before .before .answer .given .0 .0) (c .before .before .before .before .before .before .before .before .before .answer .given .1) (c .before .before .before .before .before .before .write-numbers .ensures) (c .before .before .write-floats .ensures)
 
 same-length-8 : tie.Need-same-length-8
 same-length-8 c = search needs
@@ -111,7 +111,7 @@ same-length-12 c = search needs
 returns-3 : tie.Need-returns-3
 returns-3 c =
     let s = c .before .before .before .before .before .before .before .before .before .before .before .before .before .before .before .before .before .before .before .before .before .before .before .before .before .before .before .before in
-    told-refused (s .args .ndim) (meshOf (s .args .coords .now) (s .args .corners .now)) (settings s) (lentOf (s .args .keys .now) (s .args .cells .now) (s .args .large .now)) (s .args .numbers .now) (s .args .floats .now) (front (c .before .before .before .before .before .before .before .before .before .before .before .before .before .before .before .before .before)) (answered (c .before .before .before .before .before .before .before .before .before)) (c .before .answer2 .given .0 .0) (c .before .answer2 .given .1)
+    told-refused (s .args .ndim) (meshOf (s .args .coords .now) (s .args .corners .now)) (settings s) (indexLists (s .args .keys .now) (s .args .cells .now) (s .args .large .now)) (s .args .numbers .now) (s .args .floats .now) (front (c .before .before .before .before .before .before .before .before .before .before .before .before .before .before .before .before .before)) (answered (c .before .before .before .before .before .before .before .before .before)) (c .before .answer2 .given .0 .0) (c .before .answer2 .given .1)
 
 pub gemlab-grid-cells-new-spec : {M : Type 1} → statement M
 gemlab-grid-cells-new-spec =

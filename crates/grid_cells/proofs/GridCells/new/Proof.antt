@@ -1,9 +1,6 @@
 -- `grid_cells::GridCells::new` meets its contract. Assumes nothing.
-use mathlib.Core.Path.{_≡_, subst}
+use Rattle.grid_cells.specs.Build.{settingsOf}
 use borrow.Author.Needs.{needs}
-use Rattle.grid_cells.specs.Build.{settingsOf, lentOf, build, Gives}
-use Rattle.cell_sizes.specs.declared.Settings.{Settings}
-use Rattle.mesh.specs.Mesh.{meshOf}
 use Rattle.grid_cells.proofs.GridCells.new.Statement.{statement}
 use Rattle.grid_cells.proofs.GridCells.new.Tie as tie
 
@@ -33,11 +30,9 @@ same-length-3 c = search needs
 
 returns : tie.Need-returns
 unfolding settingsOf
-returns c = let s = c .before .before .before .before .before .before .before .before .before .before .before .before .before .before .before .before .before .before .before in
-    let q = c .before .before .before .before .before .before .build-by in
-    let e : _≡_ {A = Settings} (record { tolerance = c .before .before .before .before .before .before .before .before .before .before .before .before .before .tolerance-in-force .result; «border_tol» = c .before .before .before .before .before .before .before .before .before .before .before .before .border-in-force .result; «large_cutoff» = c .before .before .before .before .before .before .before .before .before .before .before .cutoff-in-force .result; «large_pct» = c .before .before .before .before .before .before .before .before .before .before .pct-in-force .result }) (settingsOf (s .args .tolerance) (s .args .border-tol) (s .args .large-cutoff) (s .args .large-pct)) =
-    λ i. record { tolerance = c .before .before .before .before .before .before .before .before .before .before .before .before .before .tolerance-in-force .ensures i; «border_tol» = c .before .before .before .before .before .before .before .before .before .before .before .before .border-in-force .ensures i; «large_cutoff» = c .before .before .before .before .before .before .before .before .before .before .before .cutoff-in-force .ensures i; «large_pct» = c .before .before .before .before .before .before .before .before .before .before .pct-in-force .ensures i } in
-    subst (λ (t : Settings). Gives (build (s .args .ndim) (meshOf (s .args .coords .now) (s .args .corners .now)) t (lentOf (s .args .keys .now) (s .args .cells .now) (s .args .large .now))) (q .result) (q .last .1 .1 .1 .1 .0) (q .last .1 .1 .1 .1 .1 .0) (q .last .1 .1 .1 .1 .1 .1 .0)) e (q .ensures)
+returns c = let q = c .before .before .before .before .before .before in
+    let p = q .before .before .before .before in
+    rw (← p .before .before .before .tolerance-in-force .ensures, ← p .before .before .border-in-force .ensures, ← p .before .cutoff-in-force .ensures, ← p .pct-in-force .ensures) (q .build-by .ensures)
 
 pub new-spec : {M : Type 1} → statement M
 new-spec =

@@ -2,7 +2,7 @@
 use mathlib.Core.Path.{sym, _∙_}
 use borrow.Author.Tests.{not-true, not-false}
 use borrow.Author.Needs.{needs}
-use Rattle.grid_cells.specs.Steps.{divisionTests}
+use Rattle.grid_cells.specs.Build.{divisionTests}
 use Rattle.basics.specs.Refusals.{fault, code}
 use Rattle.grid_cells.proofs.frame.divisions_refused.Statement.{statement}
 use Rattle.grid_cells.proofs.frame.divisions_refused.Tie as tie
