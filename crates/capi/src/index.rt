@@ -5,8 +5,7 @@ ghost use Rattle.mesh.specs.Mesh.{meshOf};
 ghost use Rattle.grid_cells.specs.Build.{indexLists};
 ghost use Rattle.cell_search.specs.Search.{cellSearch};
 ghost use Rattle.capi.specs.Indexes.{readIndex, noIndex, indexOf, ToldCell};
-use crate::cells::FLOATS;
-use crate::cells::NUMBERS;
+use crate::cells::have_lengths;
 use crate::sheet::position_at;
 use cell_search::FoundCell;
 use geometry::Position;
@@ -70,10 +69,7 @@ fn dimension_of(numbers: &[u64]) -> usize
 fn index_of(numbers: &[u64], floats: &[f64]) -> GridCells
     ensures { λ r. ⌜ r ≡ indexOf (now (numbers .entry)) (now (floats .entry)) ⌝ }
 {
-    if numbers.len() != NUMBERS {
-        return no_index(dimension_of(numbers));
-    }
-    if floats.len() != FLOATS {
+    if !have_lengths(numbers, floats) {
         return no_index(dimension_of(numbers));
     }
     read_index(numbers, floats)

@@ -26,7 +26,7 @@ use Rattle.grid_search.specs.Sizes.{finite-number}
 use Rattle.mesh.specs.Mesh.{Mesh, Box, Whole, cellCount, pointCount, pointAt, cornerPoints, foldPoints, least, greatest, boxOf, longestSide}
 use Rattle.mesh.proofs.Whole.{corner-in, names-point, point-in, length-point, corners-tab}
 use Rattle.cell_sizes.specs.Large.{boxes, longestOf}
-use Rattle.cell_search.specs.Search.{ordered}
+use Rattle.cell_index.specs.Index.{ordered}
 use Rattle.cell_claims.proofs.Bounds.{less-from-zero}
 
 -- something holds of each entry

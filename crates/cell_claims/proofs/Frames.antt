@@ -30,7 +30,7 @@ use Rattle.grid_search.specs.Laws.{lowered-length, raised-length}
 use Rattle.cell_sizes.specs.declared.Settings.{Settings}
 use Rattle.grid_cells.specs.declared.GridCells.{GridCells}
 use Rattle.grid_cells.specs.Build.{finiteSettings, pastLimits, settingsOk, cellDivisions}
-use Rattle.cell_search.specs.Search.{cornerLimit, ordered, goodIndex}
+use Rattle.cell_index.specs.Index.{cornerLimit, ordered, goodIndex}
 use Rattle.cell_claims.proofs.Bounds.{no-minus, twice-least, sum-least, covered-bounded}
 use Rattle.cell_claims.proofs.Grown.{grown}
 use Rattle.cell_claims.proofs.Boxes.{plain, Point, Size}
