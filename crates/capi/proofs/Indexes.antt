@@ -9,7 +9,7 @@ use lib.ListN.{length, getD}
 use lib.Ieee.{Float, le}
 use lib.Dec.{eqb}
 use borrow.Author.Tests.{eqb-true}
-use Rattle.basics.specs.Bools.{and-both}
+use Rattle.basics.proofs.Bools.{and-both}
 use Rattle.grid_cells.specs.declared.GridCells.{GridCells}
 use Rattle.grid_cells.specs.Build.{IndexLists}
 use Rattle.cell_search.specs.declared.FoundCell.{FoundCell}

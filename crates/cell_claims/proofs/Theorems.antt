@@ -10,12 +10,13 @@ use lib.Dec.{ltb, eqb}
 use lib.ListN.{length, length-map}
 use lib.Ieee.{Float, binary64, fits, lt, le}
 use borrow.Author.Tests.{not-false, eqb-true, eqb-false, ltb-false, le-leb, eq-eqb, lt-ltb}
-use Rattle.basics.specs.Bools.{by-test, both, and-both, or-left, or-right}
+use Rattle.basics.proofs.Bools.{by-test, both, and-both, or-left, or-right}
 use Rattle.basics.specs.Lists.{all, any, keep, over}
-use Rattle.basics.specs.Refusals.{fault, Passed, unrefused, Answer, refused, success}
+use Rattle.basics.specs.Refusals.{fault, Answer, refused, success}
+use Rattle.basics.proofs.Refusals.{Passed, unrefused}
 use Rattle.floats.specs.Rounded.{zeroF}
 use Rattle.geometry.specs.Position.{coords, dimension, coordinate}
-use Rattle.grid_search.specs.Sheet.{above}
+use Rattle.grid_search.specs.Sheet.{inOrder}
 use Rattle.grid.specs.Divisions.{counts, division}
 use Rattle.grid.specs.Containers.{containers}
 use Rattle.mesh.specs.Mesh.{Mesh, Box, Whole, cellCount, meshTooLong, brokenMesh, least, greatest}

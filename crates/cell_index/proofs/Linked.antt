@@ -9,7 +9,7 @@ use mathlib.Core.List.{List, [], _∷_}
 use lib.Dec.{ltb}
 use lib.ListN.{length, getD, take, drop, drop-of-length-le}
 use Rattle.basics.specs.Lists.{all, tab}
-use Rattle.basics.specs.Laws.{length-tab, drop-tab, tab-take}
+use Rattle.basics.proofs.Lists.{length-tab, drop-tab, tab-take}
 use Rattle.table.specs.Rows.{Slot, before, chain, slotsOf, sorted}
 use Rattle.sorting.specs.Ascent.{ascending}
 use Rattle.cell_index.specs.Index.{goodSlot, goodRows, goodNumbers}

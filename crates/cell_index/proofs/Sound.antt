@@ -11,10 +11,11 @@ use lib.ListN.{length, getD, take}
 use lib.Seq.{getD-take, length-take-le}
 use lib.Ieee.{Float, le}
 use borrow.Author.Tests.{ltb-true, leb-true, eqb-true, not-false}
-use Rattle.basics.specs.Bools.{and-both, and-left, and-right}
+use Rattle.basics.proofs.Bools.{and-both, and-left, and-right}
 use Rattle.basics.specs.Lists.{all, tab, zipWith}
-use Rattle.basics.specs.Laws.{length-tab, getD-tab, all-at}
-use Rattle.basics.specs.Refusals.{Test, refuse, fault, code, Numbered, Passed, unrefused, code-none}
+use Rattle.basics.proofs.Lists.{length-tab, getD-tab, all-at}
+use Rattle.basics.specs.Refusals.{Test, refuse, fault, code}
+use Rattle.basics.proofs.Refusals.{Numbered, Passed, unrefused, code-none}
 use Rattle.floats.specs.Rounded.{pow2, pow2⁻}
 use Rattle.geometry.specs.Position.{coords, dimension}
 use Rattle.grid.specs.Divisions.{counts, division}

@@ -8,9 +8,9 @@ use mathlib.Core.Logic.{_⊎_, inl, inr}
 use mathlib.Core.List.{List, [], _∷_, _++_, append-nil}
 use lib.Dec.{eqb}
 use borrow.Author.Tests.{eqb-true, eqb-false, lt-ltb, le-ltb, eq-eqb, ne-eqb, le-leb, lt-leb}
-use Rattle.basics.specs.Bools.{by-test}
+use Rattle.basics.proofs.Bools.{by-test}
 use Rattle.basics.specs.Lists.{enter}
-use Rattle.basics.specs.Laws.{trichotomy}
+use Rattle.basics.proofs.Numbers.{trichotomy}
 use Rattle.sorting.specs.Sorted.{place, sortedOf, count, Ascending}
 use Rattle.sorting.proofs.Counts.{hit, count-cons, count-append, hit-same, Stands, counted}
 use Rattle.sorting.proofs.Orders.{ascending-tail, ascending-sorted, count-sorted, sorted-is}

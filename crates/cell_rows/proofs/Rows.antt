@@ -11,7 +11,7 @@ use lib.Dec.{ltb, eqb}
 use lib.ListN.{length, length-map}
 use lib.Ieee.{Float}
 use borrow.Author.Tests.{ltb-true, eqb-true, eqb-false, lt-ltb, le-ltb, eq-eqb, ne-eqb}
-use Rattle.basics.specs.Bools.{which, or-left, or-right, by-test, both, and-left, and-right}
+use Rattle.basics.proofs.Bools.{which, or-left, or-right, by-test, both, and-left, and-right}
 use Rattle.basics.specs.Lists.{all, has, enter}
 use Rattle.table.specs.Rows.{Slot, slotted, before, same}
 use Rattle.table.proofs.Order.{Lex, before-lex, before-total, same-eq}

@@ -11,10 +11,11 @@ use lib.ListN.{length}
 use lib.Ieee.{Float}
 use borrow.Author.Tests.{ltb-true, eqb-true, not-false}
 use Rattle.basics.specs.Lists.{all}
-use Rattle.basics.specs.Refusals.{fault, code, refused, success, answer, Passed, unrefused, fault-stop, fault-right, code-some}
+use Rattle.basics.specs.Refusals.{fault, code, refused, success, answer}
+use Rattle.basics.proofs.Refusals.{Passed, unrefused, fault-stop, fault-right, code-some}
 use Rattle.geometry.specs.declared.Position.{Position}
 use Rattle.geometry.specs.Position.{coords, positionOf, dimension, coordinate}
-use Rattle.geometry.specs.Axes.{coords-of}
+use Rattle.geometry.proofs.Axes.{coords-of}
 use Rattle.mesh.specs.Mesh.{Mesh}
 use Rattle.cell_rows.specs.Filing.{cellKey, cellExceeds}
 use Rattle.cell_rows.specs.Steps.{Keyed}

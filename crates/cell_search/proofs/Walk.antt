@@ -15,7 +15,7 @@ use Rattle.floats.specs.Rounded.{zeroF}
 use Rattle.geometry.specs.declared.Position.{Position}
 use Rattle.geometry.specs.declared.Zeta.{Zeta}
 use Rattle.geometry.specs.Position.{coords, axisOf, dimension}
-use Rattle.geometry.specs.Axes.{axis-at, coords-length}
+use Rattle.geometry.proofs.Axes.{axis-at, coords-length}
 use Rattle.geometry.specs.Cells.{zetas, inside}
 use Rattle.grid.specs.Containers.{outside}
 use Rattle.mesh.specs.declared.BoundingBox.{BoundingBox}

@@ -9,9 +9,10 @@ use lib.Dec.{ltb}
 use lib.ListN.{length}
 use borrow.Author.Tests.{lt-ltb, le-ltb, ltb-false}
 use lib.Ieee.{Float}
-use Rattle.basics.specs.Bools.{or-left}
+use Rattle.basics.proofs.Bools.{or-left}
 use Rattle.basics.specs.Lists.{any, over}
-use Rattle.basics.specs.Refusals.{Test, refuse, fault, code, success, unrefused, fault-stop, fault-right, code-some}
+use Rattle.basics.specs.Refusals.{Test, refuse, fault, code, success}
+use Rattle.basics.proofs.Refusals.{unrefused, fault-stop, fault-right, code-some}
 use Rattle.grid.specs.Divisions.{counts}
 use Rattle.grid_search.specs.declared.GridSearch.{GridSearch}
 use Rattle.table.specs.Rows.{slotsOf}

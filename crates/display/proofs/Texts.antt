@@ -9,7 +9,7 @@ use mathlib.Core.List.{List, [], _∷_, map}
 use lib.ListN.{length, getD, take, length-append, length-map}
 use lib.Seq.{length-take-le, getD-take, ext-getD}
 use Rattle.geometry.specs.Position.{dimension}
-use Rattle.geometry.specs.Axes.{two-or-three}
+use Rattle.geometry.proofs.Axes.{two-or-three}
 use Rattle.grid.specs.declared.Divisions.{Divisions}
 use Rattle.grid.specs.Divisions.{counts}
 use Rattle.table.specs.Rows.{Slot, slotsOf}

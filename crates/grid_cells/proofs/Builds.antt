@@ -10,12 +10,13 @@ use lib.Dec.{ltb, eqb}
 use lib.ListN.{length}
 use lib.Ieee.{Float}
 use borrow.Author.Tests.{ltb-false, eqb-true, eqb-false, not-false}
-use Rattle.basics.specs.Bools.{by-test, or-left, or-right}
+use Rattle.basics.proofs.Bools.{by-test, or-left, or-right}
 use Rattle.basics.specs.Lists.{all, any, over}
-use Rattle.basics.specs.Refusals.{Test, fault, code, refused, success, answer, Passed, unrefused, fault-stop, fault-right, code-some, code-none}
+use Rattle.basics.specs.Refusals.{Test, fault, code, refused, success, answer}
+use Rattle.basics.proofs.Refusals.{Passed, unrefused, fault-stop, fault-right, code-some, code-none}
 use Rattle.geometry.specs.Position.{dimension}
 use Rattle.grid.specs.Divisions.{counts, division}
-use Rattle.grid_search.specs.Sheet.{above}
+use Rattle.grid_search.specs.Sheet.{inOrder}
 use Rattle.mesh.specs.Mesh.{Mesh, Box, pointCount, cellCount, meshTooLong, Whole}
 use Rattle.cell_sizes.specs.declared.Settings.{Settings}
 use Rattle.cell_sizes.specs.declared.Sizes.{Sizes}
@@ -102,7 +103,7 @@ module _ (n : ℕ) (m : Mesh) (t : Settings) (l : IndexLists) where
         divisions k =
             let p = unrefused (frameTests n w t) k in
             let ns = counts n (index n w t .ndiv) in
-            divided ns (or-right (not (above (lowCorner w t) (highCorner w t))) (any (λ (d : ℕ). eqb d 0) ns) (p .1 .0)) (p .1 .1 .0)
+            divided ns (or-right (not (inOrder (lowCorner w t) (highCorner w t))) (any (λ (d : ℕ). eqb d 0) ns) (p .1 .0)) (p .1 .1 .0)
 
         index-keyed : Keyed (containersOf (index n w t))
         unfolding index

@@ -8,7 +8,8 @@ use mathlib.Core.Option.{none}
 use mathlib.Core.List.{List, _++_}
 use lib.ListN.{length}
 use borrow.Author.Tests.{eq-eqb, ne-eqb, not-false}
-use Rattle.basics.specs.Refusals.{Test, fault, code, Numbered, unrefused, code-none}
+use Rattle.basics.specs.Refusals.{Test, fault, code}
+use Rattle.basics.proofs.Refusals.{Numbered, unrefused, code-none}
 use Rattle.geometry.specs.Position.{dimension}
 use Rattle.mesh.specs.Mesh.{Mesh, cellCount, brokenMesh}
 use Rattle.cell_sizes.specs.declared.Settings.{Settings}

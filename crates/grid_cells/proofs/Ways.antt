@@ -8,9 +8,10 @@ use mathlib.Core.Option.{Option, none, some}
 use mathlib.Core.List.{List, [], _∷_, _++_}
 use lib.Dec.{ltb, eqb}
 use borrow.Author.Tests.{eqb-false, ltb-false, le-leb}
-use Rattle.basics.specs.Bools.{both, or-left, or-right}
+use Rattle.basics.proofs.Bools.{both, or-left, or-right}
 use Rattle.basics.specs.Lists.{all, any}
-use Rattle.basics.specs.Refusals.{Test, fault, code, refused, success, answer, fault-stop, fault-right, code-some, code-none, Numbered}
+use Rattle.basics.specs.Refusals.{Test, fault, code, refused, success, answer}
+use Rattle.basics.proofs.Refusals.{fault-stop, fault-right, code-some, code-none, Numbered}
 use Rattle.grid.specs.Divisions.{division}
 
 -- from 1 to 1,024: neither none nor many

@@ -17,7 +17,7 @@ use Rattle.geometry.specs.Position.{positionOf, dimension, coordinate}
 use Rattle.grid.specs.Divisions.{counts, divisionsOf}
 use Rattle.grid_search.specs.declared.GivenF64.{GivenF64}
 use Rattle.grid_search.specs.declared.GivenF64.the-variants.{LeftOut, Given}
-use Rattle.grid_search.specs.Sheet.{toleranceOf, borderOf, lowered, raised, coveredOf, above}
+use Rattle.grid_search.specs.Sheet.{toleranceOf, borderOf, lowered, raised, coveredOf, inOrder}
 use Rattle.mesh.specs.Mesh.{Mesh, Box, cellCount, meshTooLong, brokenMesh, least, greatest}
 use Rattle.table.specs.Rows.{Slot}
 use Rattle.cell_sizes.specs.declared.Settings.{Settings}

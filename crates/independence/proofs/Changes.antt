@@ -10,9 +10,10 @@ use lib.Dec.{ltb, eqb}
 use lib.ListN.{length}
 use lib.Ieee.{Float}
 use borrow.Author.Tests.{leb-true, le-leb, eqb-true, not-false}
-use Rattle.basics.specs.Bools.{both, and-both}
+use Rattle.basics.proofs.Bools.{both, and-both}
 use Rattle.basics.specs.Lists.{all}
-use Rattle.basics.specs.Refusals.{Test, refuse, fault, unrefused, passed, fault-left, fault-right}
+use Rattle.basics.specs.Refusals.{Test, refuse, fault}
+use Rattle.basics.proofs.Refusals.{unrefused, passed, fault-left, fault-right}
 use Rattle.geometry.specs.Position.{positionOf}
 use Rattle.grid.specs.Divisions.{counts}
 use Rattle.grid.specs.Containers.{containers}

@@ -5,7 +5,7 @@ use mathlib.Core.Bool.{true, false}
 use mathlib.Core.Option.{Option, none, some}
 use mathlib.Core.List.{List, [], _∷_, map}
 use lib.Dec.{eqb}
-use Rattle.basics.specs.Bools.{by-test, both}
+use Rattle.basics.proofs.Bools.{by-test, both}
 use Rattle.basics.specs.Lists.{all}
 use Rattle.basics.specs.Refusals.{fault}
 use Rattle.grid_search.specs.declared.GridSearch.{GridSearch}

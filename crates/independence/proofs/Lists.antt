@@ -5,7 +5,7 @@ use mathlib.Core.Bool.{true}
 use mathlib.Core.List.{List, [], _∷_}
 use lib.ListN.{length}
 use borrow.Author.Tests.{leb-true}
-use Rattle.basics.specs.Laws.{length-tab}
+use Rattle.basics.proofs.Lists.{length-tab}
 use Rattle.grid_search.specs.declared.GridSearch.{GridSearch}
 use Rattle.table.specs.declared.Row.{Row}
 use Rattle.table.specs.Rows.{rowsOf, laid, keyIn, idIn, xIn, yIn, zIn, Laid}

@@ -6,7 +6,8 @@ use mathlib.Core.Option.{Option, none, some}
 use mathlib.Core.List.{List, [], _∷_, _++_, map}
 use borrow.Author.Tests.{le-leb}
 use Rattle.basics.specs.Lists.{all, keep}
-use Rattle.basics.specs.Refusals.{fault, passed}
+use Rattle.basics.specs.Refusals.{fault}
+use Rattle.basics.proofs.Refusals.{passed}
 use Rattle.table.specs.declared.Row.{Row}
 use Rattle.table.specs.Rows.{slotOf, sorted, rowFor, own}
 use Rattle.table.proofs.Ids.{own-own, own-ext}

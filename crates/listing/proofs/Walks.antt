@@ -11,9 +11,9 @@ use lib.ListN.{length, getD, take, drop, set, length-append, length-map, length-
 use lib.Seq.{getD-set-same, getD-set-other, getD-take, take-append-seam, take-suc, take-suc-set, take-set-le, length-take-le, drop-cons, set-at, append-snoc}
 use lib.Ieee.{Float}
 use borrow.Author.Tests.{lt-ltb, le-ltb}
-use Rattle.basics.specs.Bools.{by-test}
+use Rattle.basics.proofs.Bools.{by-test}
 use Rattle.basics.specs.Lists.{keep, tab, enter, over}
-use Rattle.basics.specs.Laws.{map-take}
+use Rattle.basics.proofs.Lists.{map-take}
 use Rattle.basics.specs.Refusals.{fault}
 use Rattle.geometry.specs.declared.Position.{Position}
 use Rattle.geometry.specs.Position.{coords}

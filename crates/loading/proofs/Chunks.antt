@@ -13,7 +13,7 @@ use lib.Dec.{eqb}
 use lib.ListN.{length, take, drop, length-append, length-drop}
 use lib.Seq.{drop-append-le, take-append-le, drop-append-add}
 use borrow.Author.Tests.{eq-eqb, eqb-true}
-use Rattle.basics.specs.Bools.{which}
+use Rattle.basics.proofs.Bools.{which}
 use Rattle.basics.specs.Lists.{tab}
 use Rattle.basics.specs.Refusals.{Answer, refused, success, refuse, fault}
 use Rattle.grid_search.specs.declared.GridSearch.{GridSearch}

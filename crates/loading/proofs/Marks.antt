@@ -12,7 +12,7 @@ use lib.ListN.{length, drop, drop-of-length-le}
 use lib.Ieee.{Float}
 use borrow.Author.Tests.{eq-eqb, ne-eqb}
 use Rattle.basics.specs.Lists.{tab}
-use Rattle.basics.specs.Laws.{length-tab, drop-tab}
+use Rattle.basics.proofs.Lists.{length-tab, drop-tab}
 use Rattle.basics.specs.Refusals.{Answer, refused, success, fault}
 use Rattle.grid_search.specs.declared.GridSearch.{GridSearch}
 use Rattle.table.specs.declared.Row.{Row}

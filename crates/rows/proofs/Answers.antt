@@ -11,7 +11,8 @@ use lib.Ieee.{Float}
 use native.Mathlib.Omega.{arith}
 use borrow.Author.Tests.{le-leb, lt-leb, eqb-true, not-false}
 use Rattle.basics.specs.Lists.{all, any}
-use Rattle.basics.specs.Refusals.{Test, refuse, fault, code, success, fault-stop, fault-right, code-none, code-some, unrefused}
+use Rattle.basics.specs.Refusals.{Test, refuse, fault, code, success}
+use Rattle.basics.proofs.Refusals.{fault-stop, fault-right, code-none, code-some, unrefused}
 use Rattle.geometry.specs.declared.Position.{Position}
 use Rattle.geometry.specs.Position.{positionOf, coordinate}
 use Rattle.grid_search.specs.declared.GridSearch.{GridSearch}

@@ -12,18 +12,19 @@ use lib.Dec.{ltb, eqb}
 use lib.ListN.{length, getD, take}
 use lib.Ieee.{Float}
 use borrow.Author.Tests.{ltb-true, lt-ltb, le-ltb, leb-true, le-leb, lt-leb, eqb-true, not-false}
-use Rattle.basics.specs.Bools.{by-test, clash, both, and-both}
+use Rattle.basics.proofs.Bools.{by-test, clash, both, and-both}
 use Rattle.basics.specs.Lists.{all, tab}
-use Rattle.basics.specs.Refusals.{fault, code, unrefused, code-none}
-use Rattle.basics.specs.Laws.{length-tab, getD-tab, tab-take, all-tab, all-at, all-same, all-both, all-map}
+use Rattle.basics.specs.Refusals.{fault, code}
+use Rattle.basics.proofs.Refusals.{unrefused, code-none}
+use Rattle.basics.proofs.Lists.{length-tab, getD-tab, tab-take, all-tab, all-at, all-same, all-both, all-map}
 use Rattle.geometry.specs.Position.{coordinate, dimension}
-use Rattle.geometry.specs.Axes.{two-or-three}
+use Rattle.geometry.proofs.Axes.{two-or-three}
 use Rattle.grid.specs.Containers.{containers}
 use Rattle.grid.specs.Divisions.{counts, divisionsOf}
-use Rattle.grid.specs.InUse.{few-containers}
+use Rattle.grid.proofs.InUse.{few-containers}
 use Rattle.grid_search.specs.declared.GridSearch.{GridSearch}
 use Rattle.grid_search.specs.Sheet.{sheetOk}
-use Rattle.grid_search.specs.Good.{good}
+use Rattle.grid_search.proofs.Good.{good}
 use Rattle.table.specs.declared.Row.{Row}
 use Rattle.table.specs.Rows.{Slot, slotOf, before, slotAt, slotsOf, rowsOf, keyIn, xIn, yIn, zIn, sorted, Ordered, Sound, Ascending}
 use Rattle.table.proofs.Order.{Lex, before-lex, sorted-at}

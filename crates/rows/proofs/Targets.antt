@@ -12,14 +12,14 @@ use lib.ListN.{length, take, drop, set, drop-of-length-le}
 use lib.Seq.{take-suc-set}
 use lib.Ieee.{Float}
 use borrow.Author.Tests.{eq-eqb, eqb-true}
-use Rattle.basics.specs.Bools.{by-test}
+use Rattle.basics.proofs.Bools.{by-test}
 use Rattle.basics.specs.Lists.{all, any, keep, has, tab}
-use Rattle.basics.specs.Laws.{length-tab, drop-tab}
+use Rattle.basics.proofs.Lists.{length-tab, drop-tab}
 use Rattle.basics.specs.Refusals.{fault, code}
 use Rattle.floats.specs.Rounded.{_⊕_, _⊖_}
 use Rattle.geometry.specs.declared.Position.{Position}
 use Rattle.geometry.specs.Position.{coords, positionOf, coordinate, dimension}
-use Rattle.geometry.specs.Axes.{coords-of}
+use Rattle.geometry.proofs.Axes.{coords-of}
 use Rattle.grid.specs.declared.ContainerKey.{ContainerKey}
 use Rattle.grid.specs.declared.Located.{Located}
 use Rattle.grid.specs.declared.Located.the-variants.{Key, Exceeds}

@@ -7,7 +7,8 @@ use mathlib.Core.Option.{Option, none, some}
 use mathlib.Core.List.{List, [], _∷_}
 use lib.Ieee.{Float}
 use Rattle.basics.specs.Lists.{any, keep}
-use Rattle.basics.specs.Refusals.{fault, code, answer, success, refused, fault-stop, fault-right, code-some}
+use Rattle.basics.specs.Refusals.{fault, code, answer, success, refused}
+use Rattle.basics.proofs.Refusals.{fault-stop, fault-right, code-some}
 use Rattle.grid_search.specs.declared.GridSearch.{GridSearch}
 use Rattle.table.specs.Rows.{rowsOf}
 use Rattle.rows.specs.Library.{Library, library, table, libraryTests}

@@ -13,9 +13,9 @@ use lib.Dec.{eqb}
 use lib.ListN.{length, drop, getD}
 use lib.Ieee.{Float, nan, le}
 use borrow.Author.Tests.{eqb-true, eq-eqb, ne-eqb}
-use Rattle.basics.specs.Bools.{by-test, clash, and-left, and-both}
+use Rattle.basics.proofs.Bools.{by-test, clash, and-left, and-both}
 use Rattle.basics.specs.Lists.{keep, tab}
-use Rattle.basics.specs.Laws.{length-tab, drop-tab}
+use Rattle.basics.proofs.Lists.{length-tab, drop-tab}
 use Rattle.geometry.specs.Position.{coords}
 use Rattle.geometry.specs.Distances.{pointPoint}
 use Rattle.grid_search.specs.declared.GridSearch.{GridSearch}

@@ -10,7 +10,7 @@ use mathlib.Core.List.{List, [], _∷_, _++_, map}
 use lib.ListN.{length, getD, take, drop, length-map, length-append, length-drop, take-append-drop}
 use lib.Seq.{take-suc, take-all, drop-nil}
 use lib.Ieee.{Float}
-use Rattle.basics.specs.Bools.{by-test}
+use Rattle.basics.proofs.Bools.{by-test}
 use Rattle.geometry.specs.declared.Position.{Position}
 use Rattle.table.specs.declared.Row.{Row}
 use Rattle.table.specs.Rows.{slotOf, slotsOf, keyIn, idIn, xIn, yIn, zIn, rowIn, rowsOf, sorted, held, putRow, putIn, laid, Sound, Laid}

@@ -11,7 +11,7 @@ use lib.Seq.{slice-cons, slice-empty, take-all}
 use lib.Dec.{eqb}
 use lib.Ieee.{Float}
 use borrow.Author.Tests.{eq-eqb}
-use Rattle.basics.specs.Bools.{by-test, clash, and-both}
+use Rattle.basics.proofs.Bools.{by-test, clash, and-both}
 use Rattle.basics.specs.Lists.{has}
 use Rattle.geometry.specs.declared.Position.{Position}
 use Rattle.table.specs.declared.Row.{Row}

@@ -9,9 +9,9 @@ use mathlib.Core.Logic.{_⊎_, inl, inr, ⊎-elim}
 use mathlib.Core.Bool.{true, false}
 use mathlib.Core.List.{List}
 use lib.ListN.{length, getD}
-use Rattle.basics.specs.Bools.{clash}
+use Rattle.basics.proofs.Bools.{clash}
 use Rattle.basics.specs.Lists.{tab}
-use Rattle.basics.specs.Laws.{length-tab}
+use Rattle.basics.proofs.Lists.{length-tab}
 use Rattle.table.specs.Rows.{Slot, slotted, slotAt, slotsOf, before, sorted, lower, Ordered, Passed, Between}
 use Rattle.table.proofs.Order.{Lex, before-lex, lex-before, lower-le, lower-below, lower-above}
 

@@ -10,9 +10,9 @@ use mathlib.Core.Option.{Option, none, some}
 use lib.Dec.{eqb}
 use lib.ListN.{length}
 use borrow.Author.Tests.{eq-eqb, eqb-true}
-use Rattle.basics.specs.Bools.{by-test, clash, both, and-both}
+use Rattle.basics.proofs.Bools.{by-test, clash, both, and-both}
 use Rattle.basics.specs.Lists.{all, keep, has}
-use Rattle.basics.specs.Laws.{length-keep}
+use Rattle.basics.proofs.Lists.{length-keep}
 use Rattle.geometry.specs.declared.Position.{Position}
 use Rattle.table.specs.declared.Row.{Row}
 use Rattle.table.specs.Rows.{Slot, slotted, slotOf, before, same, chain, sorted, keyIn, idIn, rowIn, putRow, putIn, own, rowFor}

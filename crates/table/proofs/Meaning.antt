@@ -12,7 +12,7 @@ use lib.ListN.{length, getD, take, drop, length-map, length-append}
 use lib.Seq.{drop-at}
 use lib.Ieee.{Float, nan}
 use borrow.Author.Tests.{eq-eqb}
-use Rattle.basics.specs.Bools.{by-test, clash, both, and-both}
+use Rattle.basics.proofs.Bools.{by-test, clash, both, and-both}
 use Rattle.table.specs.declared.Row.{Row}
 use Rattle.table.specs.Rows.{Slot, slotOf, before, same, chain, sorted, held, keyIn, idIn, xIn, yIn, zIn, rowsOf, putRow, rowFor, laid, Laid}
 use Rattle.table.proofs.Order.{before-irrefl, before-total, same-eq}

@@ -11,9 +11,10 @@ use mathlib.Core.List.{List, [], _∷_, map}
 use lib.ListN.{length, drop}
 use lib.Dec.{ltb, eqb}
 use borrow.Author.Tests.{ltb-true, eqb-true, lt-ltb, eq-eqb, ne-eqb}
-use Rattle.basics.specs.Bools.{by-test, clash, and-both, or-either}
+use Rattle.basics.proofs.Bools.{by-test, clash, and-both, or-either}
 use Rattle.basics.specs.Lists.{tab}
-use Rattle.basics.specs.Laws.{trichotomy, length-tab, drop-tab}
+use Rattle.basics.proofs.Numbers.{trichotomy}
+use Rattle.basics.proofs.Lists.{length-tab, drop-tab}
 use Rattle.table.specs.Rows.{Slot, slotted, before, same, chain, sorted, lower, held}
 
 -- ---- the order

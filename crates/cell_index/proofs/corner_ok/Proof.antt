@@ -1,6 +1,6 @@
 -- `cell_index::corner_ok` meets its contract. Assumes nothing.
 use mathlib.Core.List.{[], _∷_}
-use Rattle.geometry.specs.Axes.{all-tests}
+use Rattle.geometry.proofs.Axes.{all-tests}
 use Rattle.cell_index.specs.Index.{cornerLimit}
 use borrow.Author.Needs.{needs}
 use Rattle.cell_index.proofs.corner_ok.Statement.{statement}

@@ -7,7 +7,7 @@ use borrow.Author.Tests.{eq-eqb, ne-eqb, not-true, not-false}
 use Rattle.basics.specs.Lists.{all}
 use Rattle.basics.specs.Refusals.{fault, answer}
 use Rattle.geometry.specs.Position.{coords, coordinate}
-use Rattle.geometry.specs.Axes.{coords-of}
+use Rattle.geometry.proofs.Axes.{coords-of}
 use Rattle.grid.specs.Containers.{outside}
 use Rattle.cell_rows.specs.Steps.{cellContainer}
 use Rattle.cell_rows.proofs.Corners.{is-key, is-far}

@@ -5,7 +5,7 @@ use mathlib.Core.List.{[]}
 use lib.ListN.{getD}
 use Rattle.mesh.proofs.Whole.{corner-in, corner-names, names-point, point-in, length-point, corner-at}
 use Rattle.mesh.specs.Mesh.{meshOf, cellCount, pointAt}
-use Rattle.geometry.specs.Axes.{coords-of}
+use Rattle.geometry.proofs.Axes.{coords-of}
 use Rattle.mesh.proofs.corner.Statement.{statement}
 use Rattle.mesh.proofs.corner.Tie as tie
 

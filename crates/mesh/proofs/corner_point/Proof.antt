@@ -1,6 +1,6 @@
 -- `mesh::corner_point` meets its contract. Assumes nothing.
 use native.Mathlib.Omega.{arith}
-use Rattle.geometry.specs.Axes.{few-axes}
+use Rattle.geometry.proofs.Axes.{few-axes}
 use mathlib.Core.Path.{sym, _∙_}
 use Rattle.mesh.proofs.Whole.{corner-in, corner-names}
 use Rattle.mesh.specs.Mesh.{meshOf}

@@ -3,7 +3,7 @@ use native.Mathlib.Omega.{arith}
 use mathlib.Core.Bool.{not}
 use mathlib.Core.Path.{ap, _∙_}
 use borrow.Author.Tests.{eq-eqb, ne-eqb}
-use Rattle.geometry.specs.Axes.{few-axes}
+use Rattle.geometry.proofs.Axes.{few-axes}
 use Rattle.mesh.specs.Mesh.{brokenMesh, pointCount}
 use borrow.Author.Needs.{needs}
 use Rattle.mesh.proofs.is_broken.Statement.{statement}

@@ -1,6 +1,6 @@
 -- `mesh::point_count` meets its contract. Assumes nothing.
 use native.Mathlib.Omega.{arith}
-use Rattle.geometry.specs.Axes.{few-axes}
+use Rattle.geometry.proofs.Axes.{few-axes}
 use mathlib.Core.Path.{refl}
 use Rattle.mesh.specs.Mesh.{pointCount}
 use Rattle.mesh.proofs.point_count.Statement.{statement}

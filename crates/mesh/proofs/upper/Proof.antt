@@ -2,7 +2,8 @@
 use mathlib.Core.List.{[], _∷_}
 use borrow.Author.Needs.{needs}
 use Rattle.floats.specs.Tests.{maxOf}
-use Rattle.basics.specs.Lists.{take-zip, zipWith}
+use Rattle.basics.specs.Lists.{zipWith}
+use Rattle.basics.proofs.Lists.{take-zip}
 use Rattle.mesh.proofs.upper.Statement.{statement}
 use Rattle.mesh.proofs.upper.Tie as tie
 

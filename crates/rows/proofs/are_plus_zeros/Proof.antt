@@ -7,7 +7,7 @@ use mathlib.Core.Bool.{Bool, _&&_}
 use lib.ListN.{take, drop}
 use lib.Ieee.{nan, ofBits}
 use Rattle.basics.specs.Lists.{all}
-use Rattle.basics.specs.Laws.{all-turn, all-end}
+use Rattle.basics.proofs.Walks.{all-turn, all-turned}
 use Rattle.rows.specs.Posts.{plusZero}
 use native.Mathlib.Omega.{arith}
 use Rattle.rows.proofs.are_plus_zeros.Statement.{statement}
@@ -49,7 +49,7 @@ returns : tie.Need-returns Inv-loop μ-loop
 returns c =
     let l = c .before in
     let a = l .before .before in
-    sym (l .loop .inv .1 ∙ all-end plusZero (a .args .n) (a .args .s .now) (l .loop .i) (l .loop .ok) (omega arith) (omega arith))
+    sym (l .loop .inv .1 ∙ all-turned plusZero (a .args .n) (a .args .s .now) (l .loop .i) (l .loop .ok) (omega arith) (omega arith))
 
 pub are-plus-zeros-spec : {M : Type 1} → statement M
 are-plus-zeros-spec =

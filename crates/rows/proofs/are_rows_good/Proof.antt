@@ -7,7 +7,7 @@ use lib.Dec.{ltb}
 use lib.ListN.{take}
 use lib.Seq.{length-take-le}
 use Rattle.basics.specs.Lists.{all}
-use Rattle.geometry.specs.Axes.{three}
+use Rattle.geometry.proofs.Axes.{three}
 use Rattle.rows.specs.Posts.{third}
 use Rattle.rows.proofs.Check.{not-ascending, bad-keys, bad-xs, bad-ys, only-zs}
 use borrow.Author.Needs.{needs}

@@ -2,7 +2,7 @@
 -- Assumes nothing.
 use mathlib.Core.Option.{Option}
 use mathlib.Core.List.{List}
-use Rattle.geometry.specs.Axes.{coords-length, corners-most}
+use Rattle.geometry.proofs.Axes.{coords-length, corners-most}
 use Rattle.rows.proofs.Targets.{walk-again, look-none}
 use Rattle.grid_search.specs.Sheet.{toleranceOf}
 use lib.Ieee.{Float}

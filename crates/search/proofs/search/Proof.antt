@@ -7,7 +7,7 @@ use Rattle.grid.specs.Containers.{located}
 use mathlib.Core.Path.{sym, ap, _∙_}
 use Rattle.basics.specs.Refusals.{success}
 use Rattle.geometry.specs.Position.{coords}
-use Rattle.geometry.specs.Axes.{coords-of}
+use Rattle.geometry.proofs.Axes.{coords-of}
 use Rattle.rows.specs.Library.{library}
 use Rattle.rows.proofs.Check.{divided, whole, numbered, whole-sound}
 use Rattle.rows.proofs.Targets.{located-key, located-not}

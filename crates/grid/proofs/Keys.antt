@@ -11,33 +11,26 @@ use lib.Dec.{ltb, leb, eqb}
 use lib.ListN.{length}
 use lib.Ieee.{Float}
 use borrow.Author.Tests.{ltb-false, leb-true, eqb-true, eqb-false}
-use Rattle.basics.specs.Bools.{which, and-left, and-both, or-left, or-right}
+use Rattle.basics.proofs.Bools.{which, and-left, and-both, or-left, or-right}
 use Rattle.basics.specs.Lists.{all, zipWith}
 use Rattle.grid.specs.Divisions.{division}
-use Rattle.grid.specs.Containers.{ratios, exceed, inner, combine, keyOf, containers, pivots}
-
--- as many indices as axes, each below its divisions
-abbrev pub Below : List ℕ → List ℕ → Type 0
-Below [] [] = Unit {0}
-Below [] (i ∷ is) = ⊥
-Below (n ∷ ns) [] = ⊥
-Below (n ∷ ns) (i ∷ is) = (i < n) × Below ns is
+use Rattle.grid.specs.Containers.{InGrid, ratios, exceed, inner, combine, keyOf, containers, pivots}
 
 -- ---- indices to a key and back
-pub digit : (n i c k : ℕ) → i < n → c < k → i + n * c < n * k
-digit n i c k h g = lt-of-lt-of-le (omega (arith, mul-suc n c)) (mul-le-mul-left n g)
+pub digit-below : (n i c k : ℕ) → i < n → c < k → i + n * c < n * k
+digit-below n i c k h g = lt-of-lt-of-le (omega (arith, mul-suc n c)) (mul-le-mul-left n g)
 
-pub combine-below : (ns is : List ℕ) → Below ns is → combine ns is < containers ns
+pub combine-below : (ns is : List ℕ) → InGrid ns is → combine ns is < containers ns
 unfolding combine containers
 combine-below [] [] b = omega arith
 combine-below [] (i ∷ is) b = absurd b
 combine-below (n ∷ ns) [] b = absurd b
-combine-below (n ∷ ns) (i ∷ is) b = digit n i (combine ns is) (containers ns) (b .0) (combine-below ns is (b .1))
+combine-below (n ∷ ns) (i ∷ is) b = digit-below n i (combine ns is) (containers ns) (b .0) (combine-below ns is (b .1))
 
 positive : (i n : ℕ) → i < n → 0 < n
 positive i n h = omega arith
 
-pub pivots-combine : (ns is : List ℕ) → Below ns is → pivots ns (combine ns is) ≡ is
+pub pivots-combine : (ns is : List ℕ) → InGrid ns is → pivots ns (combine ns is) ≡ is
 unfolding combine pivots
 pivots-combine [] [] b = refl
 pivots-combine [] (i ∷ is) b = absurd b
@@ -56,7 +49,7 @@ some-division (suc n) k key h = omega arith
 quotient-below : (n k key : ℕ) → key < n * k → key / n < k
 quotient-below n k key h = div-lt-iff-lt-mul (some-division n k key h) .1 (subst (λ (x : ℕ). key < x) (mul-comm n k) h)
 
-pub pivots-below : (ns : List ℕ) (key : ℕ) → key < containers ns → Below ns (pivots ns key)
+pub pivots-below : (ns : List ℕ) (key : ℕ) → key < containers ns → InGrid ns (pivots ns key)
 unfolding pivots containers
 pivots-below [] key h = tt
 pivots-below (n ∷ ns) key h = (mod-lt key (some-division n (containers ns) key h), pivots-below ns (key / n) (quotient-below n (containers ns) key h))
@@ -78,7 +71,7 @@ inner-below n r P h = go (which (eqb r n))
         other : (n r : ℕ) → r ≤ n → (r ≡ n → ⊥) → r < n
         other n r h e = omega arith
 
-pub indices-below : (ns rs : List ℕ) → length rs ≡ length ns → all division ns ≡ true → exceed ns rs ≡ false → Below ns (zipWith inner ns rs)
+pub indices-below : (ns rs : List ℕ) → length rs ≡ length ns → all division ns ≡ true → exceed ns rs ≡ false → InGrid ns (zipWith inner ns rs)
 unfolding zipWith all exceed
 indices-below [] [] l d e = tt
 indices-below [] (r ∷ rs) l d e = tt

@@ -11,28 +11,26 @@ use lib.ListN.{length, getD, take}
 use lib.Ieee.{Float, binary64, fits, lt}
 use lib.Ieee.Fits.{add-fits, sub-fits, mul-fits, div-fits}
 use borrow.Author.Tests.{eq-eqb}
-use Rattle.basics.specs.Bools.{by-test, both, and-left, and-right, and-both}
-use Rattle.basics.specs.Lists.{all, zipWith}
+use Rattle.basics.proofs.Bools.{by-test, both, and-left, and-right, and-both}
+use Rattle.basics.specs.Lists.{all, zipWith, foldFrom}
 use Rattle.basics.specs.Refusals.{fault, success, answer}
 use Rattle.floats.specs.Rounded.{_⊖_, _⊗_, _⊘_, ofNat, zeroF, pow2}
-use Rattle.floats.specs.Tests.{finite, sameBits, maxOf}
-use Rattle.floats.specs.Laws.{Binary64}
-use Rattle.floats.specs.Choice.{max-either}
-use Rattle.floats.specs.Unique.{same-bits-same, same-bits-self}
-use Rattle.floats.specs.Upto.{upto-finite}
+use Rattle.floats.specs.Tests.{finite, sameBits, maxOf, Binary64}
+use Rattle.floats.proofs.Choice.{max-either}
+use Rattle.floats.proofs.Unique.{same-bits-same, same-bits-self}
+use Rattle.floats.proofs.Upto.{upto-finite}
 use Rattle.geometry.specs.declared.Position.{Position}
 use Rattle.geometry.specs.Position.{coords, positionOf}
-use Rattle.geometry.specs.Axes.{coords-of}
+use Rattle.geometry.proofs.Axes.{coords-of}
 use Rattle.grid.specs.declared.Divisions.{Divisions}
 use Rattle.grid.specs.Divisions.{numDivisions}
 use Rattle.grid_search.specs.declared.GivenU64.{GivenU64}
 use Rattle.grid_search.specs.declared.GivenF64.{GivenF64}
 use Rattle.grid_search.specs.declared.GridSearch.{GridSearch}
-use Rattle.grid_search.specs.Sheet.{numberOf, toleranceOf, borderOf, build, sheetTests, newSheet, samePosition, sameDivisions, sameSheet, sheetOk}
-use Rattle.grid_search.specs.Sheet.{lowered, raised, largestFrom, largest, sideOf, coveredOf, diagonal}
-use Rattle.grid_search.specs.Sizes.{sized-finite, coordinates-sized, finite-number}
-use Rattle.grid_search.specs.Sound.{accepted-by, xminFrom, xmaxFrom, sound}
-use Rattle.grid_search.specs.Good.{lowOf, highOf, rebuilt, remade, kept, same-fields, good}
+use Rattle.grid_search.specs.Sheet.{numberOf, toleranceOf, borderOf, sheetFrom, sheetTests, newSheet, samePosition, sameDivisions, sameSheet, sheetOk, lowered, raised, largest, sideOf, coveredOf, diagonal}
+use Rattle.grid_search.proofs.Sizes.{sized-finite, coordinates-sized, finite-number}
+use Rattle.grid_search.proofs.Settings.{tests-passed, xminFrom, xmaxFrom, of-settings}
+use Rattle.grid_search.proofs.Good.{lowOf, highOf, rebuilt, remade, kept, same-fields, good}
 
 -- ---- a good sheet is the one that its settings give
 pub record HeldPosition (p : Position) : Type 0 where
@@ -100,7 +98,7 @@ unfolding largest fits
 held-largest [] h = tt
 held-largest (x ∷ xs) h = on x xs (h .0) (h .1)
   where
-    on : (x : Float) (xs : List Float) → Binary64 x → HeldList xs → Binary64 (largestFrom x xs)
+    on : (x : Float) (xs : List Float) → Binary64 x → HeldList xs → Binary64 (foldFrom maxOf x xs)
     on x [] h k = h
     on x (y ∷ xs) h k = on (maxOf x y) xs (held-max x y h (k .0)) (k .1)
 
@@ -122,7 +120,7 @@ module _ (s t : GridSearch) where
   sheet-ext a b c d e f g h i j k l = rw (a, b, c, d, e, f, g, h, i, j, k, l)
 
 pub sheet-is : (s : GridSearch) → sheetOk s ≡ true → HeldSheet s → remade s ≡ success s
-unfolding build
+unfolding sheetFrom
 sheet-is s ok h =
     let f = same-fields s (rebuilt s) (kept s ok .same) in
     let lo = lowOf s in
@@ -173,11 +171,11 @@ success-none none a b e = (refl, cc)
 success-none (some n) a b e = absurd (let z : _≡_ {A = ℕ} 0 1 = cc in omega arith)
 
 module _ (lo hi : List Float) (number : GivenU64) (tolerance border : GivenF64) where
-  build-same : fault (sheetTests lo hi number tolerance border) ≡ none → sameSheet (build lo hi number tolerance border) (build lo hi number tolerance border) ≡ true
-  unfolding sameSheet build
+  build-same : fault (sheetTests lo hi number tolerance border) ≡ none → sameSheet (sheetFrom lo hi number tolerance border) (sheetFrom lo hi number tolerance border) ≡ true
+  unfolding sameSheet sheetFrom
   build-same e =
-      let o = sound lo hi number tolerance border e in
-      let b = build lo hi number tolerance border in
+      let o = of-settings lo hi number tolerance border e in
+      let b = sheetFrom lo hi number tolerance border in
       both (eq-eqb (length lo) (length lo) refl)
       (both (same-position-self lo (sized-finite 1048576 lo (coordinates-sized lo (o .limits .low))))
       (both (same-position-self hi (sized-finite 1048576 hi (coordinates-sized hi (o .limits .high))))
@@ -188,14 +186,14 @@ module _ (lo hi : List Float) (number : GivenU64) (tolerance border : GivenF64) 
       (both (same-self (b .«tol_dist») (upto-finite 2048 (b .«tol_dist») (o .near)))
       (same-self (b .radius) (upto-finite 4198400 (b .radius) (o .radius))))))))))
 
-  build-keeps : fault (sheetTests lo hi number tolerance border) ≡ none → (lowOf (build lo hi number tolerance border) ≡ lo) × (highOf (build lo hi number tolerance border) ≡ hi)
-  unfolding build
+  build-keeps : fault (sheetTests lo hi number tolerance border) ≡ none → (lowOf (sheetFrom lo hi number tolerance border) ≡ lo) × (highOf (sheetFrom lo hi number tolerance border) ≡ hi)
+  unfolding sheetFrom
   build-keeps e =
-      let a = accepted-by lo hi number tolerance border e in
+      let a = tests-passed lo hi number tolerance border e in
       (coords-of (length lo) lo (positionOf lo) (a .axes) refl refl, coords-of (length lo) hi (positionOf hi) (a .axes) (a .lengths) refl)
 
-  build-good : fault (sheetTests lo hi number tolerance border) ≡ none → sheetOk (build lo hi number tolerance border) ≡ true
-  unfolding sheetOk newSheet build
+  build-good : fault (sheetTests lo hi number tolerance border) ≡ none → sheetOk (sheetFrom lo hi number tolerance border) ≡ true
+  unfolding sheetOk newSheet sheetFrom
   build-good e =
       let k = build-keeps e in
       rw (k .0, k .1, e) (build-same e)
@@ -203,5 +201,5 @@ module _ (lo hi : List Float) (number : GivenU64) (tolerance border : GivenF64) 
   pub made-good : (s : GridSearch) → newSheet lo hi number tolerance border ≡ success s → sheetOk s ≡ true
   unfolding newSheet
   made-good s e =
-      let p = success-none (fault (sheetTests lo hi number tolerance border)) (build lo hi number tolerance border) s e in
+      let p = success-none (fault (sheetTests lo hi number tolerance border)) (sheetFrom lo hi number tolerance border) s e in
       subst (λ (t : GridSearch). sheetOk t ≡ true) (p .1) (build-good (p .0))

@@ -18,9 +18,9 @@ pub record Held (f : Format) (m : ℕ) (e : ℤ) : Type 0 where
   pub deep : down e ≤ 2 ^ low f
   pub bound : m * up e < 2 ^ suc (emax f) * down e
 
-pub held : (f : Format) (s : Bool) (m : ℕ) (e : ℤ) → T (fits f (fin s (suc m) e)) → Held f (suc m) e
+pub fits-held : (f : Format) (s : Bool) (m : ℕ) (e : ℤ) → T (fits f (fin s (suc m) e)) → Held f (suc m) e
 unfolding fits
-held f s m e h =
+fits-held f s m e h =
     let A = eqb (suc m % 2) 1 in
     let B = ltb (suc m) (2 ^ prec f) in
     let C = leb (down e) (2 ^ low f) in

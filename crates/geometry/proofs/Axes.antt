@@ -12,8 +12,9 @@ use lib.ListN.{length, take, drop, getD}
 use lib.Seq.{drop-cons, getD-take}
 use lib.Ieee.{Float}
 use borrow.Author.Tests.{eqb-true}
-use Rattle.basics.specs.Bools.{or-either}
-use Rattle.basics.specs.Lists.{all, any, zipWith, take-zip}
+use Rattle.basics.proofs.Bools.{or-either}
+use Rattle.basics.specs.Lists.{all, any, zipWith}
+use Rattle.basics.proofs.Lists.{take-zip}
 use Rattle.floats.specs.Rounded.{_⊖_, _⊗_, _⊘_, zeroF}
 use Rattle.geometry.specs.declared.Position.{Position}
 use Rattle.geometry.specs.declared.Line.{Line}

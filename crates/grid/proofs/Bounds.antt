@@ -1,12 +1,12 @@
 -- What the test of divisions says of a record of them, and that products of divisions are small. Assumes nothing.
-use Prim.Native.Nat.{ℕ, _-_, _*_, _≤_}
+use Prim.Native.Nat.{ℕ, _*_, _≤_}
 use native.Mathlib.Nat.{mul-le-mul}
 use mathlib.Core.Path.{_≡_}
 use mathlib.Core.Bool.{true}
 use mathlib.Core.List.{List, [], _∷_}
 use lib.Dec.{leb}
 use borrow.Author.Tests.{leb-true}
-use Rattle.basics.specs.Bools.{and-left, and-right}
+use Rattle.basics.proofs.Bools.{and-left, and-right}
 use Rattle.basics.specs.Lists.{all}
 use Rattle.grid.specs.declared.Divisions.{Divisions}
 use Rattle.grid.specs.Divisions.{counts, division}

@@ -16,14 +16,14 @@ use lib.Ieee.Fits.{two, two-le-pos, reach, up-pos, odd-fits, nan-fits}
 use lib.Ieee.Order.{le-of-values}
 use lib.Ieee.Positive.{positive, value-pos, positive-of-value, values-of-le, above, above-of-le}
 use borrow.Author.Tests.{le-ltb, ne-eqb}
-use Rattle.basics.specs.Bools.{clash}
+use Rattle.basics.proofs.Bools.{clash}
 use Rattle.floats.specs.Rounded.{zeroF}
 use Rattle.floats.specs.Sqrt.{root, rootOf, sqrtIn}
-use Rattle.floats.specs.Near.{Near, square-suc, square-double, lower-k, lower-q, root-of-near, sqrt-value}
-use Rattle.floats.specs.Exact.{Nearest, sqrt-nearest, in-units, pow-lt-back}
-use Rattle.floats.specs.Order.{le-self, le-join, not-lt-le, le-left, le-right}
-use Rattle.floats.specs.Held.{held, one-size, rescale}
-use Rattle.floats.specs.Unique.{value-unique}
+use Rattle.floats.proofs.Near.{Near, square-suc, square-double, lower-k, lower-q, root-of-near, sqrt-value}
+use Rattle.floats.proofs.Exact.{Nearest, sqrt-nearest, in-units, pow-lt-back}
+use Rattle.floats.proofs.Order.{le-self, le-join, not-lt-le, le-left, le-right}
+use Rattle.floats.proofs.Held.{fits-held, one-size, rescale}
+use Rattle.floats.proofs.Unique.{value-unique}
 
 -- ---- the root of a value above zero is one of the format's
 near : (p l : ℕ) (x y : Float) (r : Nearest p l x y) → Near p (r .n * 2 ^ l) (r .q) (r .k)
@@ -48,7 +48,7 @@ size-bound f (fin false zero e) n h p v = absurd (lt-irrefl 0 (ltb→lt 0 0 p))
 size-bound f (fin false (suc m) e) n h p v =
     lt-of-mul-lt-mul-right (down e)
     (lt-of-le-of-lt (le-of-eq (sym (v .1)))
-    (lt-of-lt-of-le (mul-lt-mul-of-pos-right (held f false m e h .bound) (pow-pos (low f))) (le-of-eq (mul-right-comm (2 ^ suc (emax f)) (down e) (2 ^ low f)))))
+    (lt-of-lt-of-le (mul-lt-mul-of-pos-right (fits-held f false m e h .bound) (pow-pos (low f))) (le-of-eq (mul-right-comm (2 ^ suc (emax f)) (down e) (2 ^ low f)))))
 
 positive-fits : (f : Format) (x : Float) → T (fits f x) → T (positive x) → T (fits f (sqrtIn f x))
 positive-fits f x h p =
@@ -299,7 +299,7 @@ positive-square f x (fin false zero d) a c A C h k v w = absurd (lt-irrefl 0 (lt
 positive-square f x (fin false (suc n) d) a c A C h k v w =
     let y = fin false (suc n) d in
     let l = low f in
-    let g = held f false n d k in
+    let g = fits-held f false n d k in
     let r = sqrt-nearest f x h (positive-of-value x (a * a) (c * c) w (mul-pos A A)) in
     let u = in-units l (suc n) d (g .deep) in
     let b = suc n * 2 ^ u .0 in

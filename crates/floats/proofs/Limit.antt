@@ -15,14 +15,15 @@ use lib.Ieee.Bits.{ofBits-fits, toBits-ofBits}
 use lib.Ieee.Digits.{size-lt, size-le, size-reaches}
 use lib.Ieee.Fits.{kept-lt, two, two-le-pos, down-pos}
 use lib.Ieee.Nearest.{div-mono}
-use Rattle.basics.specs.Bools.{which, clash}
+use Rattle.basics.proofs.Bools.{which, clash}
 use Rattle.floats.specs.Rounded.{zeroF}
 use Rattle.floats.specs.Sqrt.{sqrtOf}
-use Rattle.floats.specs.Order.{le-cross, le-self, le-join, lt-le, not-lt-le, lt-is-not-le, le-right}
-use Rattle.floats.specs.Unique.{pattern, pattern-is, same-pattern}
-use Rattle.floats.specs.Roots.{is-nan, not-below, zero-number, no-minus-infinity, below-zero, to-infinity, zero-least}
-use Rattle.floats.specs.Reading.{read-finite}
-use Rattle.floats.specs.Laws.{Binary64, root-monotone}
+use Rattle.floats.proofs.Order.{le-cross, le-self, le-join, lt-le, not-lt-le, lt-is-not-le, le-right}
+use Rattle.floats.proofs.Unique.{pattern, pattern-is, same-pattern}
+use Rattle.floats.proofs.Roots.{is-nan, not-below, zero-number, no-minus-infinity, below-zero, to-infinity, zero-least}
+use Rattle.floats.proofs.Reading.{read-finite}
+use Rattle.floats.specs.Tests.{Binary64}
+use Rattle.floats.proofs.Laws.{root-monotone}
 
 -- ---- a larger value has no smaller pattern
 size-mono : (a b : ℕ) → a ≤ b → size a ≤ size b

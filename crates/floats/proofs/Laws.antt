@@ -1,27 +1,22 @@
 -- The laws of module 1 at binary64, in one place. `Roots.antt`, `Exact.antt`, `Nearer.antt`, `Whole.antt`, `Least.antt`, `Order.antt`, `Choice.antt` and `Unique.antt` have the proofs, and more laws.
 -- Assumes nothing.
 use mathlib.Core.Path.{_≡_}
-use Prim.Native.Nat.{ℕ, zero, suc, _+_, _*_, _/_, _%_, _^_, _<_}
-use mathlib.Core.Bool.{Bool, true, false, cond}
-use lib.Dec.{T, eqb}
+use Prim.Native.Nat.{ℕ, _*_, _^_, _<_}
+use mathlib.Core.Bool.{Bool, true, false}
+use lib.Dec.{T}
 use lib.IntN.{ℤ}
-use lib.Ieee.{Float, nan, inf, fin, binary64, up, down, fits, lt, le, round}
+use lib.Ieee.{Float, fin, binary64, up, down, lt, le}
 use lib.Ieee.Exact.{HasValue}
-use lib.Ieee.Fits.{cond-fits, round-fits}
 use lib.Ieee.Positive.{positive}
 use Rattle.floats.specs.Rounded.{zeroF, truncate}
 use Rattle.floats.specs.Sqrt.{sqrtOf}
-use Rattle.floats.specs.Exact.{Nearest, sqrt-nearest}
-use Rattle.floats.specs.Roots.{sqrt-fits, sqrt-monotone, sqrt-square, sqrt-sign, sqrt-not-below}
-use Rattle.floats.specs.Nearer.{nearerRoot, root-is-finite, none-nearer}
-use Rattle.floats.specs.Whole.{WholePart, truncate-whole}
+use Rattle.floats.proofs.Exact.{Nearest, sqrt-nearest}
+use Rattle.floats.proofs.Roots.{sqrt-fits, sqrt-monotone, sqrt-square, sqrt-sign, sqrt-not-below}
+use Rattle.floats.proofs.Nearer.{nearerRoot, root-is-finite, none-nearer}
+use Rattle.floats.proofs.Whole.{WholePart, truncate-whole}
 use Rattle.floats.specs.Ceil.{ceilOf}
-use Rattle.floats.specs.Least.{Next, ceil-least}
-use Rattle.floats.specs.Tests.{absOf, finite}
-
--- x is a value of binary64: what an `f64` holds
-abbrev pub Binary64 : Float → Type 0
-Binary64 x = T (fits binary64 x)
+use Rattle.floats.proofs.Least.{Next, ceil-least}
+use Rattle.floats.specs.Tests.{Binary64, finite}
 
 -- ---- the root
 
@@ -66,19 +61,3 @@ truncation-whole m e h = truncate-whole m e h
 -- ---- rounding up: the least whole number that is not below
 pub rounding-up-least : (s : Bool) (m : ℕ) (e : ℤ) → Binary64 (fin s m e) → (c : ℕ) × HasValue (ceilOf (fin s m e)) s c 1 × Next s (m * up e) (down e) c
 rounding-up-least s m e h = ceil-least s m e h
-
-pub rounding-up-held : (x : Float) → Binary64 x → Binary64 (ceilOf x)
-unfolding ceilOf
-rounding-up-held nan h = h
-rounding-up-held (inf s) h = h
-rounding-up-held (fin s m e) h =
-    let c = m * up e / down e + cond s 0 1 in
-    cond-fits binary64 (eqb (m * up e % down e) 0) (fin s m e) (round binary64 s c 1) h (round-fits binary64 s c 1)
-
--- ---- the magnitude
-pub magnitude-held : (x : Float) → Binary64 x → Binary64 (absOf x)
-unfolding absOf fits
-magnitude-held nan h = h
-magnitude-held (inf s) h = h
-magnitude-held (fin s zero e) h = h
-magnitude-held (fin s (suc m) e) h = h

@@ -8,33 +8,33 @@ use mathlib.Core.List.{List, [], _∷_, map}
 use lib.Dec.{lit≤}
 use lib.Ieee.{Float, nan, inf, fin, lt, le, isNan, ofInt}
 use borrow.Author.Tests.{not-false}
-use Rattle.basics.specs.Bools.{by-test, both, and-left, and-right, and-both, or-left, or-right, clash}
-use Rattle.basics.specs.Lists.{all, zipWith}
+use Rattle.basics.proofs.Bools.{by-test, both, and-left, and-right, and-both, or-left, or-right, clash}
+use Rattle.basics.specs.Lists.{all, zipWith, foldFrom}
 use Rattle.floats.specs.Rounded.{_⊕_, _⊖_, _⊗_, _⊘_, ofNat, zeroF, pow2}
 use Rattle.floats.specs.Tests.{finite, maxOf}
-use Rattle.floats.specs.Order.{lt-is-not-le, le-join}
-use Rattle.floats.specs.Upto.{Upto, upto-finite, upto-more, within-upto, add-upto, sub-upto, mul-upto, div-upto, nat-upto, nat-from1, max-upto, above-unsigned, mul-unsigned, unsigned-above}
+use Rattle.floats.proofs.Order.{lt-is-not-le, le-join}
+use Rattle.floats.proofs.Upto.{Upto, upto-finite, upto-more, within-upto, add-upto, sub-upto, mul-upto, div-upto, nat-upto, nat-from1, max-upto, above-unsigned, mul-unsigned, unsigned-above}
 use Rattle.geometry.specs.Position.{dimension, coordinate}
-use Rattle.geometry.specs.Axes.{two-or-three}
+use Rattle.geometry.proofs.Axes.{two-or-three}
 use Rattle.grid.specs.Divisions.{division}
-use Rattle.grid.specs.Bounds.{first-of, rest-of}
-use Rattle.grid_search.specs.Sheet.{lowered, raised, largestFrom, largest, sideOf, coveredOf, diagonal, outOfLimits}
+use Rattle.grid.proofs.Bounds.{first-of, rest-of}
+use Rattle.grid_search.specs.Sheet.{lowered, raised, largest, sideOf, coveredOf, diagonal, outOfLimits}
 
 -- ---- lists whose entries are at most n in size
-abbrev pub Sized : ℕ → List Float → Type 0
-Sized n [] = Unit {0}
-Sized n (x ∷ xs) = Upto n x × Sized n xs
+abbrev pub AllUpto : ℕ → List Float → Type 0
+AllUpto n [] = Unit {0}
+AllUpto n (x ∷ xs) = Upto n x × AllUpto n xs
 
-pub sized-finite : (n : ℕ) (xs : List Float) → Sized n xs → all finite xs ≡ true
+pub sized-finite : (n : ℕ) (xs : List Float) → AllUpto n xs → all finite xs ≡ true
 unfolding all
 sized-finite n [] h = refl
 sized-finite n (x ∷ xs) h = both (upto-finite n x (h .0)) (sized-finite n xs (h .1))
 
-sized-more : (a b : ℕ) (xs : List Float) → a ≤ b → Sized a xs → Sized b xs
+sized-more : (a b : ℕ) (xs : List Float) → a ≤ b → AllUpto a xs → AllUpto b xs
 sized-more a b [] k h = tt
 sized-more a b (x ∷ xs) k h = (upto-more a b x k (h .0), sized-more a b xs k (h .1))
 
-pub coordinates-sized : (xs : List Float) → all coordinate xs ≡ true → Sized 1048576 xs
+pub coordinates-sized : (xs : List Float) → all coordinate xs ≡ true → AllUpto 1048576 xs
 unfolding all
 coordinates-sized [] h = tt
 coordinates-sized (x ∷ xs) h =
@@ -42,26 +42,26 @@ coordinates-sized (x ∷ xs) h =
     (within-upto 20 x (a .0), coordinates-sized xs (a .1))
 
 -- ---- the corners with the border
-less-sized : (a b : ℕ) → a + b ≤ 2 ^ 53 → (y : Float) (xs : List Float) → Upto b y → Sized a xs → Sized (a + b) (map (λ (x : Float). x ⊖ y) xs)
+less-sized : (a b : ℕ) → a + b ≤ 2 ^ 53 → (y : Float) (xs : List Float) → Upto b y → AllUpto a xs → AllUpto (a + b) (map (λ (x : Float). x ⊖ y) xs)
 less-sized a b N y [] k h = tt
 less-sized a b N y (x ∷ xs) k h = (sub-upto a b N x y (h .0) k, less-sized a b N y xs k (h .1))
 
-more-sized : (a b : ℕ) → a + b ≤ 2 ^ 53 → (y : Float) (xs : List Float) → Upto b y → Sized a xs → Sized (a + b) (map (λ (x : Float). x ⊕ y) xs)
+more-sized : (a b : ℕ) → a + b ≤ 2 ^ 53 → (y : Float) (xs : List Float) → Upto b y → AllUpto a xs → AllUpto (a + b) (map (λ (x : Float). x ⊕ y) xs)
 more-sized a b N y [] k h = tt
 more-sized a b N y (x ∷ xs) k h = (add-upto a b N x y (h .0) k, more-sized a b N y xs k (h .1))
 
-pub lowered-sized : (border : Float) (lo : List Float) → Upto 1024 border → Sized 1048576 lo → Sized 1049600 (lowered border lo)
+pub lowered-sized : (border : Float) (lo : List Float) → Upto 1024 border → AllUpto 1048576 lo → AllUpto 1049600 (lowered border lo)
 unfolding lowered
 lowered-sized border lo k h =
     by-test (lt zeroF border) (λ e. rw e (less-sized 1048576 1024 (lit≤ tt) border lo k h)) (λ e. rw e (sized-more 1048576 1049600 lo (lit≤ tt) h))
 
-pub raised-sized : (border : Float) (hi : List Float) → Upto 1024 border → Sized 1048576 hi → Sized 1049600 (raised border hi)
+pub raised-sized : (border : Float) (hi : List Float) → Upto 1024 border → AllUpto 1048576 hi → AllUpto 1049600 (raised border hi)
 unfolding raised
 raised-sized border hi k h =
     by-test (lt zeroF border) (λ e. rw e (more-sized 1048576 1024 (lit≤ tt) border hi k h)) (λ e. rw e (sized-more 1048576 1049600 hi (lit≤ tt) h))
 
 -- ---- the side, and the high corner of the containers
-differences-sized : (a b : ℕ) → a + b ≤ 2 ^ 53 → (ys xs : List Float) → Sized a ys → Sized b xs → Sized (a + b) (zipWith (λ (y x : Float). y ⊖ x) ys xs)
+differences-sized : (a b : ℕ) → a + b ≤ 2 ^ 53 → (ys xs : List Float) → AllUpto a ys → AllUpto b xs → AllUpto (a + b) (zipWith (λ (y x : Float). y ⊖ x) ys xs)
 unfolding zipWith
 differences-sized a b N [] xs h k = tt
 differences-sized a b N (y ∷ ys) [] h k = tt
@@ -70,7 +70,7 @@ differences-sized a b N (y ∷ ys) (x ∷ xs) h k = (sub-upto a b N y x (h .0) (
 few : {n : ℕ} → n ≤ 1024 → n ≤ 2 ^ 53
 few h = omega arith
 
-sides-sized : (a : ℕ) → a ≤ 2 ^ 53 → (ds : List Float) (ns : List ℕ) → Sized a ds → all division ns ≡ true → Sized a (zipWith (λ (d : Float) (n : ℕ). d ⊘ ofNat n) ds ns)
+sides-sized : (a : ℕ) → a ≤ 2 ^ 53 → (ds : List Float) (ns : List ℕ) → AllUpto a ds → all division ns ≡ true → AllUpto a (zipWith (λ (d : Float) (n : ℕ). d ⊘ ofNat n) ds ns)
 unfolding zipWith
 sides-sized a N [] ns h k = tt
 sides-sized a N (d ∷ ds) [] h k = tt
@@ -78,23 +78,23 @@ sides-sized a N (d ∷ ds) (n ∷ ns) h k =
     let r = first-of n ns k in
     (div-upto a N d (ofNat n) (h .0) (nat-from1 n (r .least) (few (r .most))), sides-sized a N ds ns (h .1) (rest-of n ns k))
 
-largest-from : (n : ℕ) (x : Float) (xs : List Float) → Upto n x → Sized n xs → Upto n (largestFrom x xs)
-unfolding largestFrom
+largest-from : (n : ℕ) (x : Float) (xs : List Float) → Upto n x → AllUpto n xs → Upto n (foldFrom maxOf x xs)
+unfolding foldFrom
 largest-from n x [] h k = h
 largest-from n x (y ∷ xs) h k = largest-from n (maxOf x y) xs (max-upto n x y h (k .0)) (k .1)
 
-largest-sized : (n : ℕ) (xs : List Float) → Sized n xs → Upto n (largest xs)
+largest-sized : (n : ℕ) (xs : List Float) → AllUpto n xs → Upto n (largest xs)
 unfolding largest
 largest-sized n [] h = Prim.Native.Nat.zero-le
 largest-sized n (x ∷ xs) h = largest-from n x xs (h .0) (h .1)
 
-pub side-sized : (xmin xmax : List Float) (ns : List ℕ) → Sized 1049600 xmin → Sized 1049600 xmax → all division ns ≡ true → Upto 2099200 (sideOf xmin xmax ns)
+pub side-sized : (xmin xmax : List Float) (ns : List ℕ) → AllUpto 1049600 xmin → AllUpto 1049600 xmax → all division ns ≡ true → Upto 2099200 (sideOf xmin xmax ns)
 unfolding sideOf
 side-sized xmin xmax ns h k d =
     largest-sized 2099200 (zipWith (λ (d : Float) (n : ℕ). d ⊘ ofNat n) (zipWith (λ (b a : Float). b ⊖ a) xmax xmin) ns)
     (sides-sized 2099200 (lit≤ tt) (zipWith (λ (b a : Float). b ⊖ a) xmax xmin) ns (differences-sized 1049600 1049600 (lit≤ tt) xmax xmin k h) d)
 
-pub covered-sized : (side : Float) (xmin : List Float) (ns : List ℕ) → Upto 2099200 side → Sized 1049600 xmin → all division ns ≡ true → Sized 2150630400 (coveredOf side xmin ns)
+pub covered-sized : (side : Float) (xmin : List Float) (ns : List ℕ) → Upto 2099200 side → AllUpto 1049600 xmin → all division ns ≡ true → AllUpto 2150630400 (coveredOf side xmin ns)
 unfolding coveredOf zipWith
 covered-sized side [] ns k h d = tt
 covered-sized side (a ∷ los) [] k h d = tt

@@ -9,7 +9,7 @@ use lib.Dec.{eqb, lit<}
 use lib.IntN.{ℤ}
 use lib.Ieee.{nan, inf, fin, binary64, odd, ofFields, ofBits}
 use borrow.Author.Tests.{lt-leb, ne-eqb}
-use Rattle.floats.specs.Roots.{odd-shape}
+use Rattle.floats.proofs.Roots.{odd-shape}
 
 -- ---- reading a pattern whose sign is clear
 pub fields : (b x t : ℕ) → x < 2048 → t < 2 ^ 52 → b ≡ x * 2 ^ 52 + t → ofBits binary64 b ≡ ofFields binary64 false x t

@@ -1,40 +1,14 @@
--- Laws of numbers and lists that the kit lacks: the three cases of two numbers, `tab`, `keep`, `map` of a part of a list, and tests of every entry.
+-- Laws of lists that the kit lacks: `tab`, `keep`, `zipWith`, `map` of a part of a list, and tests of every entry.
 -- Assumes nothing.
-use Prim.Native.Nat.{ℕ, zero, suc, _+_, _≤_, _<_, zero-le, suc-le-suc}
+use Prim.Native.Nat.{ℕ, zero, suc, _≤_, _<_, zero-le, suc-le-suc}
 use native.Mathlib.Nat.{le-of-suc-le-suc, not-suc-le-zero}
-use native.Mathlib.Numerals.{add-one}
 use native.Mathlib.Omega.{arith}
-use mathlib.Core.Path.{_≡_, refl, sym, ap, ap₂}
-use mathlib.Core.Logic.{_⊎_, inl, inr}
-use mathlib.Core.Bool.{Bool, true, false, cond, _&&_, _||_, and-true, and-assoc}
+use mathlib.Core.Path.{_≡_, refl, ap, ap₂}
+use mathlib.Core.Bool.{Bool, true, false, _&&_}
 use mathlib.Core.List.{List, [], _∷_, _++_, map, map-append}
 use lib.ListN.{length, getD, take, drop}
-use lib.Seq.{slice-cons, slice-empty}
-use lib.Dec.{ltb, leb, eqb}
-use borrow.Author.Tests.{ltb-true, ltb-false, eqb-true, eqb-false, le-leb, lt-leb}
-use Rattle.basics.specs.Bools.{by-test, both, and-left, and-right}
-use Rattle.basics.specs.Lists.{all, keep, tab}
-
--- ---- numbers
-
-less : (a b : ℕ) → b ≤ a → (a ≡ b → ⊥) → b < a
-less a b h n = omega arith
-
-pub trichotomy : (a b : ℕ) → (a < b) ⊎ ((a ≡ b) ⊎ (b < a))
-trichotomy a b =
-    by-test (ltb a b) (λ e. inl (ltb-true a b e))
-    (λ e. inr (by-test (eqb a b) (λ g. inl (eqb-true a b g)) (λ g. inr (less a b (ltb-false a b e) (eqb-false a b g)))))
-
--- at most is below or equal
-pub at-most : (a b : ℕ) → (ltb a b || (eqb a b && true)) ≡ leb a b
-at-most a b =
-    by-test (ltb a b) (λ l. rw l (sym (le-leb a b (omega (arith, ltb-true a b l)))))
-    (λ l. by-test (eqb a b) (λ e. rw (l, e) (sym (le-leb a b (omega (arith, eqb-true a b e)))))
-    (λ e. rw (l, e) (sym (lt-leb a b (less a b (ltb-false a b l) (eqb-false a b e))))))
-
-pub suc-cond : (b : Bool) (m n : ℕ) → suc (cond b m n) ≡ cond b (suc m) (suc n)
-suc-cond true m n = refl
-suc-cond false m n = refl
+use Rattle.basics.proofs.Bools.{by-test, both, and-left, and-right}
+use Rattle.basics.specs.Lists.{all, keep, tab, zipWith}
 
 -- ---- f 0, f 1, ..
 
@@ -118,18 +92,25 @@ module _ {A : Type 0} where
   all-map p f [] = refl
   all-map p f (x ∷ l) = ap (λ (b : Bool). p (f x) && b) (all-map p f l)
 
-  -- a walk over the first n with a flag that holds what was passed: a turn, and the end
-  pub all-turn : (p : A → Bool) (n : ℕ) (s : List A) (d : A) (i : ℕ) (ok : Bool) → i < n → n ≤ length s
-      → (ok && all p (drop i (take n s))) ≡ ((ok && p (getD s i d)) && all p (drop (i + 1) (take n s)))
-  unfolding all
-  all-turn p n s d i ok h k = rw (add-one, slice-cons i n s d h k) (sym (and-assoc ok (p (getD s i d)) (all p (drop (suc i) (take n s)))))
-
-  pub all-end : (p : A → Bool) (n : ℕ) (s : List A) (i : ℕ) (ok : Bool) → i ≤ n → n ≤ i → (ok && all p (drop i (take n s))) ≡ ok
-  unfolding all
-  all-end p n s i ok h k = let e : i ≡ n = omega arith in rw (e, slice-empty n s) (and-true ok)
-
   -- every entry by its index
   pub all-tab : (p : A → Bool) (n : ℕ) (f : ℕ → A) → ((i : ℕ) → i < n → p (f i) ≡ true) → all p (tab n f) ≡ true
   unfolding all
   all-tab p zero f h = refl
   all-tab p (suc n) f h = both (h 0 (suc-le-suc zero-le)) (all-tab p n (λ i. f (suc i)) (λ i l. h (suc i) (suc-le-suc l)))
+
+-- ---- the first n of two lists joined, and an entry that is there
+
+-- the first n of two lists joined entry by entry
+pub take-zip : {A B C : Type 0} (f : A → B → C) (n : ℕ) (xs : List A) (ys : List B) → take n (zipWith f xs ys) ≡ zipWith f (take n xs) (take n ys)
+unfolding zipWith
+take-zip f zero xs ys = refl
+take-zip f (suc n) [] ys = refl
+take-zip f (suc n) (x ∷ xs) [] = refl
+take-zip f (suc n) (x ∷ xs) (y ∷ ys) = rw (take-zip f n xs ys)
+
+module _ {A : Type 0} where
+  -- an entry before the end is not the default
+  pub getD-any : (xs : List A) (i : ℕ) (d e : A) → i < length xs → getD xs i d ≡ getD xs i e
+  getD-any [] i d e h = absurd (not-suc-le-zero h)
+  getD-any (x ∷ xs) zero d e h = refl
+  getD-any (x ∷ xs) (suc i) d e h = getD-any xs i d e (le-of-suc-le-suc h)

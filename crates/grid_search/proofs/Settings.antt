@@ -10,42 +10,42 @@ use lib.Dec.{eqb}
 use lib.ListN.{length}
 use lib.Ieee.{Float, lt, le, eq}
 use borrow.Author.Tests.{eqb-true, eqb-false, ltb-false, not-false}
-use Rattle.basics.specs.Bools.{or-left}
+use Rattle.basics.proofs.Bools.{or-left}
 use Rattle.basics.specs.Lists.{all, zipWith}
-use Rattle.basics.specs.Refusals.{fault, Passed, unrefused}
+use Rattle.basics.specs.Refusals.{fault}
+use Rattle.basics.proofs.Refusals.{Passed, unrefused}
 use Rattle.floats.specs.Rounded.{_⊗_, _⊘_, zeroF, pow2}
-use Rattle.floats.specs.Upto.{Upto, upto-finite, between-upto}
+use Rattle.floats.proofs.Upto.{Upto, upto-finite, between-upto}
 use Rattle.geometry.specs.Position.{dimension}
 use Rattle.grid.specs.Divisions.{division, numDivisions}
-use Rattle.grid.specs.Shares.{divisions-length}
+use Rattle.grid.proofs.Shares.{divisions-length}
 use Rattle.grid_search.specs.declared.GivenU64.{GivenU64}
 use Rattle.grid_search.specs.declared.GivenF64.{GivenF64}
-use Rattle.grid_search.specs.Sheet.{numberOf, toleranceOf, borderOf, outOfLimits, above, build, sheetTests}
-use Rattle.grid_search.specs.Sheet.{lowered, raised, sideOf, coveredOf, diagonal}
-use Rattle.grid_search.specs.Laws.{divisions-good, lowered-length}
-use Rattle.grid_search.specs.Sizes.{Sized, coordinates-sized, lowered-sized, raised-sized, side-sized, covered-sized, diagonal-sized, near-sized, radius-sized, Limited, limited, above-zero, side-above}
+use Rattle.grid_search.specs.Sheet.{numberOf, toleranceOf, borderOf, outOfLimits, inOrder, sheetFrom, sheetTests, lowered, raised, sideOf, coveredOf, diagonal}
+use Rattle.grid_search.proofs.Laws.{divisions-good, lowered-length}
+use Rattle.grid_search.proofs.Sizes.{AllUpto, coordinates-sized, lowered-sized, raised-sized, side-sized, covered-sized, diagonal-sized, near-sized, radius-sized, Limited, limited, above-zero, side-above}
 
 -- ---- the tests that settings passed, by name
-pub record Accepted (lo hi : List Float) (number : ℕ) (tolerance border side : Float) : Type 0 where
+pub record TestsPassed (lo hi : List Float) (number : ℕ) (tolerance border side : Float) : Type 0 where
   pub axes : dimension (length lo) ≡ true
   pub lengths : length hi ≡ length lo
   pub limits : outOfLimits lo hi tolerance border ≡ false
   pub least : 2 ≤ number
   pub most : number ≤ 1024
-  pub order : above lo hi ≡ true
+  pub order : inOrder lo hi ≡ true
   pub tolerated : le tolerance zeroF ≡ false
   pub bordered : lt border zeroF ≡ false
   pub wide : le side (pow2 1 ⊗ tolerance) ≡ false
 
-pub accepted-by : (lo hi : List Float) (number : GivenU64) (tolerance border : GivenF64) → fault (sheetTests lo hi number tolerance border) ≡ none
-    → Accepted lo hi (numberOf number) (toleranceOf tolerance) (borderOf border) (build lo hi number tolerance border .«side_length»)
+pub tests-passed : (lo hi : List Float) (number : GivenU64) (tolerance border : GivenF64) → fault (sheetTests lo hi number tolerance border) ≡ none
+    → TestsPassed lo hi (numberOf number) (toleranceOf tolerance) (borderOf border) (sheetFrom lo hi number tolerance border .«side_length»)
 unfolding sheetTests
-accepted-by lo hi number tolerance border e = go (unrefused (sheetTests lo hi number tolerance border) e)
+tests-passed lo hi number tolerance border e = go (unrefused (sheetTests lo hi number tolerance border) e)
   where
     two : (n : ℕ) → (n ≡ 0 → ⊥) → (n ≡ 1 → ⊥) → 2 ≤ n
     two n h k = omega arith
 
-    go : Passed (sheetTests lo hi number tolerance border) → Accepted lo hi (numberOf number) (toleranceOf tolerance) (borderOf border) (build lo hi number tolerance border .«side_length»)
+    go : Passed (sheetTests lo hi number tolerance border) → TestsPassed lo hi (numberOf number) (toleranceOf tolerance) (borderOf border) (sheetFrom lo hi number tolerance border .«side_length»)
     go p =
         let q = p .1 .1 .1 in
         record {
@@ -54,7 +54,7 @@ accepted-by lo hi number tolerance border e = go (unrefused (sheetTests lo hi nu
           limits = p .1 .1 .0;
           least = two (numberOf number) (eqb-false (numberOf number) 0 (q .0)) (eqb-false (numberOf number) 1 (q .1 .0));
           most = ltb-false 1024 (numberOf number) (q .1 .1 .0);
-          order = not-false (above lo hi) (q .1 .1 .1 .0);
+          order = not-false (inOrder lo hi) (q .1 .1 .1 .0);
           tolerated = q .1 .1 .1 .1 .0;
           bordered = q .1 .1 .1 .1 .1 .0;
           wide = q .1 .1 .1 .1 .1 .1 .0;
@@ -84,25 +84,25 @@ module _ (lo hi : List Float) (number : GivenU64) (tolerance border : GivenF64) 
   abbrev pub xmaxFrom : List Float
   xmaxFrom = coveredOf sideFrom xminFrom divisionsFrom
 
-  pub record Sound : Type 0 where
-    pub tests : Accepted lo hi (numberOf number) (toleranceOf tolerance) (borderOf border) sideFrom
+  pub record OfSettings : Type 0 where
+    pub tests : TestsPassed lo hi (numberOf number) (toleranceOf tolerance) (borderOf border) sideFrom
     pub limits : Limited lo hi (toleranceOf tolerance) (borderOf border)
     pub counts-length : length divisionsFrom ≡ length lo
     pub xmin-length : length xminFrom ≡ length lo
     pub xmax-length : length xmaxFrom ≡ length lo
     pub divisions : all division divisionsFrom ≡ true
     pub tolerance-above : lt zeroF (toleranceOf tolerance) ≡ true
-    pub xmin : Sized 1049600 xminFrom
-    pub xmax : Sized 2150630400 xmaxFrom
+    pub xmin : AllUpto 1049600 xminFrom
+    pub xmax : AllUpto 2150630400 xmaxFrom
     pub side : Upto 2099200 sideFrom
     pub side-above-zero : lt zeroF sideFrom ≡ true
     pub near : Upto 2048 (diagonal (length lo) ⊗ toleranceOf tolerance)
     pub radius : Upto 4198400 (diagonal (length lo) ⊗ sideFrom ⊘ pow2 1)
 
-  pub sound : fault (sheetTests lo hi number tolerance border) ≡ none → Sound
-  unfolding build
-  sound e =
-      let a = accepted-by lo hi number tolerance border e in
+  pub of-settings : fault (sheetTests lo hi number tolerance border) ≡ none → OfSettings
+  unfolding sheetFrom
+  of-settings e =
+      let a = tests-passed lo hi number tolerance border e in
       let l = limited lo hi (toleranceOf tolerance) (borderOf border) (a .limits) in
       let b = between-upto 10 (borderOf border) (l .border-finite) (l .border-most) (a .bordered) in
       let t = between-upto 10 (toleranceOf tolerance) (l .tolerance-finite) (l .tolerance-most) (below-zero (toleranceOf tolerance) (a .tolerated)) in

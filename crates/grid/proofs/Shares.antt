@@ -9,16 +9,14 @@ use lib.Dec.{leb, eqb}
 use lib.ListN.{length, take}
 use lib.Ieee.{Float, nan, inf, fin, lt, le, isNan}
 use borrow.Author.Tests.{le-leb}
-use Rattle.basics.specs.Bools.{by-test, both, and-both}
+use Rattle.basics.proofs.Bools.{by-test, both, and-both}
 use Rattle.basics.specs.Lists.{all, zipWith}
 use Rattle.floats.specs.Rounded.{_⊖_, _⊗_, _⊘_, ofNat, truncate}
-use Rattle.floats.specs.Order.{lt-is-not-le, not-lt-le, lt-le, le-self, le-join}
-use Rattle.floats.specs.Upto.{unsigned, share-upto}
-use Rattle.geometry.specs.Position.{dimension}
-use Rattle.geometry.specs.Axes.{entries-of}
+use Rattle.floats.proofs.Order.{lt-is-not-le, not-lt-le, lt-le, le-self, le-join}
+use Rattle.floats.proofs.Upto.{unsigned, share-upto}
 use Rattle.geometry.specs.Distances.{from}
 use Rattle.grid.specs.declared.Longest.{Longest}
-use Rattle.grid.specs.Divisions.{counts, divisionsOf, longer, longestFrom, longest, share, shares, numDivisions}
+use Rattle.grid.specs.Divisions.{longer, longestFrom, longest, share, shares, numDivisions}
 
 unsigned-number : (x : Float) → unsigned x ≡ true → isNan x ≡ false
 unfolding isNan
@@ -115,7 +113,3 @@ unfolding shares
 take-shares number best zero i ds = refl
 take-shares number best (suc n) i [] = refl
 take-shares number best (suc n) i (d ∷ ds) = rw (take-shares number best n (suc i) ds)
-
--- ---- a record made from a list of divisions has these divisions
-pub counts-of : (n : ℕ) (ns : List ℕ) → dimension n ≡ true → length ns ≡ n → counts n (divisionsOf ns) ≡ ns
-counts-of n ns h e = entries-of 1 n ns h e

@@ -4,9 +4,9 @@ use mathlib.Core.Path.{_≡_, refl, sym}
 use mathlib.Core.Logic.{_⊎_, inl, inr}
 use mathlib.Core.Bool.{Bool, true, false, cond, _&&_, _||_, false≢true}
 use lib.Ieee.{Float, nan, inf, fin, lt, le, isNan, neg}
-use Rattle.basics.specs.Bools.{which, or-true}
+use Rattle.basics.proofs.Bools.{which, or-true}
 use Rattle.floats.specs.Tests.{absOf, minOf, maxOf, finite, within}
-use Rattle.floats.specs.Order.{lt-le, le-self, not-lt-le, le-ends}
+use Rattle.floats.proofs.Order.{lt-le, le-self, not-lt-le, le-ends}
 
 -- ---- the magnitude
 pub abs-abs : (x : Float) → absOf (absOf x) ≡ absOf x
@@ -14,12 +14,6 @@ unfolding absOf
 abs-abs nan = refl
 abs-abs (inf s) = refl
 abs-abs (fin s m e) = refl
-
-pub abs-neg : (x : Float) → absOf (neg x) ≡ absOf x
-unfolding absOf neg
-abs-neg nan = refl
-abs-neg (inf s) = refl
-abs-neg (fin s m e) = refl
 
 -- ---- the smaller of two is one of them, and above neither
 module _ (a b : Float) where

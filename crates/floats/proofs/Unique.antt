@@ -12,9 +12,9 @@ use lib.Ieee.Exact.{HasValue}
 use lib.Ieee.Fits.{down-pos}
 use lib.Ieee.Nearest.{div-same}
 use borrow.Author.Tests.{eqb-true, eq-eqb}
-use Rattle.basics.specs.Bools.{and-left, and-right, both}
+use Rattle.basics.proofs.Bools.{and-right, both}
 use Rattle.floats.specs.Tests.{sameBits}
-use Rattle.floats.specs.Order.{eq-left, eq-right, eq-self}
+use Rattle.floats.proofs.Order.{eq-self}
 
 -- two values with one pattern
 pub same-pattern : (f : Format) (x y : Float) → T (fits f x) → T (fits f y) → toBits f x ≡ toBits f y → x ≡ y
@@ -56,8 +56,3 @@ same-bits-same a b h k e = same-pattern binary64 a b h k (eqb-true (toBits binar
 pub same-bits-self : (x : Float) → isNan x ≡ false → sameBits x x ≡ true
 unfolding sameBits
 same-bits-self x h = both (eq-self x h) (eq-eqb (toBits binary64 x) (toBits binary64 x) refl)
-
--- a NaN is the same as nothing
-pub same-bits-no-nan : (a b : Float) → sameBits a b ≡ true → (isNan a ≡ false) × (isNan b ≡ false)
-unfolding sameBits
-same-bits-no-nan a b e = let h = and-left (eq a b) (eqb (toBits binary64 a) (toBits binary64 b)) e in (eq-left a b h, eq-right a b h)

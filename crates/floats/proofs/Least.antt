@@ -12,7 +12,7 @@ use lib.Ieee.{fin, binary64, up, down, round, fits}
 use lib.Ieee.Fits.{down-pos, eq→eqb}
 use lib.Ieee.Exact.{HasValue}
 use lib.Ieee.Back.{round-whole}
-use Rattle.floats.specs.Held.{held}
+use Rattle.floats.proofs.Held.{fits-held}
 use Rattle.floats.specs.Ceil.{ceilOf}
 
 -- c is n / d, or the whole number next to it: above it where s is false, and nearer to zero where s is true
@@ -53,7 +53,7 @@ at s m e h false y n =
 
 digits : (s : Bool) (m : ℕ) (e : ℤ) → T (fits binary64 (fin s m e)) → m < 2 ^ 53
 digits s zero e h = pow-pos 53
-digits s (suc m) e h = held binary64 s m e h .digits
+digits s (suc m) e h = fits-held binary64 s m e h .digits
 
 pub ceil-least : (s : Bool) (m : ℕ) (e : ℤ) → T (fits binary64 (fin s m e)) → (c : ℕ) × HasValue (ceilOf (fin s m e)) s c 1 × Next s (m * up e) (down e) c
 unfolding ceilOf

@@ -5,20 +5,19 @@ use native.Mathlib.Omega.{arith}
 use mathlib.Core.Path.{_≡_, refl, sym, _∙_}
 use mathlib.Core.Logic.{_⊎_, inl, inr}
 use mathlib.Core.Bool.{Bool, true, false, _&&_, _||_}
-use mathlib.Core.List.{List}
+use mathlib.Core.List.{List, []}
 use lib.Dec.{eqb}
 use lib.ListN.{length, getD}
 use lib.Seq.{take-all}
 use lib.Ieee.{Float, nan, fits}
 use borrow.Author.Tests.{eqb-true}
-use Rattle.basics.specs.Bools.{by-test, and-both, or-either, clash}
+use Rattle.basics.proofs.Bools.{by-test, and-both, or-either, clash}
 use Rattle.basics.specs.Lists.{tab}
-use Rattle.basics.specs.Laws.{tab-take}
+use Rattle.basics.proofs.Lists.{tab-take}
 use Rattle.basics.specs.Refusals.{refused, success}
 use Rattle.floats.specs.Rounded.{zeroF}
-use Rattle.floats.specs.Tests.{sameBits}
-use Rattle.floats.specs.Laws.{Binary64}
-use Rattle.floats.specs.Unique.{same-bits-same}
+use Rattle.floats.specs.Tests.{sameBits, Binary64}
+use Rattle.floats.proofs.Unique.{same-bits-same}
 use Rattle.geometry.specs.Position.{dimension}
 use Rattle.grid_search.specs.declared.GivenU64.{GivenU64}
 use Rattle.grid_search.specs.declared.GivenU64.the-variants as number
@@ -26,8 +25,8 @@ use Rattle.grid_search.specs.declared.GivenF64.{GivenF64}
 use Rattle.grid_search.specs.declared.GivenF64.the-variants as float
 use Rattle.grid_search.specs.declared.GridSearch.{GridSearch}
 use Rattle.grid_search.specs.Sheet.{newSheet, sheetOk}
-use Rattle.grid_search.specs.Good.{no-axes}
-use Rattle.capi.specs.Sheets.{givenNumber, givenFloat, numberFlag, numberEntry, floatFlag, floatEntry, numbersOf, floatsOf, sheetLengths, numberRead, floatRead, readable, readSheet, noSheet, sheetOf, newInC, ToldSheet}
+use Rattle.grid_search.proofs.Good.{no-axes}
+use Rattle.capi.specs.Sheets.{givenNumber, givenFloat, numberFlag, numberEntry, floatFlag, floatEntry, numbersOf, floatsOf, sheetLengths, numberRead, floatRead, readable, readSheet, sheetOf, newInC, ToldSheet}
 
 -- ---- what is written is read back
 number-back : (g : GivenU64) → givenNumber (numberFlag g) (numberEntry g) ≡ g
@@ -55,8 +54,8 @@ read-back s d =
 
 -- ---- damaged lists are no good sheet
 pub damaged : (numbers : List ℕ) (floats : List Float) → readable numbers floats ≡ false → sheetOk (sheetOf numbers floats) ≡ false
-unfolding sheetOf
-damaged numbers floats h = rw h (no-axes noSheet refl)
+unfolding sheetOf readSheet
+damaged numbers floats h = rw h (no-axes (readSheet [] []) refl)
 
 pub good-readable : (numbers : List ℕ) (floats : List Float) → sheetOk (sheetOf numbers floats) ≡ true → readable numbers floats ≡ true
 good-readable numbers floats h = by-test (readable numbers floats) (λ e. e) (λ e. clash h (damaged numbers floats e))

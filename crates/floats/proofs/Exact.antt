@@ -1,7 +1,7 @@
 -- The law of `sqrtIn`: of a value above zero that the format f holds, the root is finite and is the one of the format's digits nearest to the exact root, and no tie is met (`sqrt-nearest`).
 -- Assumes nothing.
 use mathlib.Core.Path.{_≡_, refl, sym, ap, _∙_, subst}
-use Prim.Native.Nat.{ℕ, zero, suc, _+_, _-_, _*_, _/_, _%_, _^_, _≤_, _<_}
+use Prim.Native.Nat.{ℕ, zero, suc, _+_, _-_, _*_, _%_, _^_, _≤_, _<_}
 use native.Mathlib.Nat.{le-refl, le-trans, le-of-eq, le-of-suc-le-suc, lt-of-lt-of-le, lt-of-le-of-lt, lt-of-not-le, lt-irrefl, mul-one, suc-mul, mul-assoc, mul-comm, mul-mul-mul-comm, mul-pos, mul-le-mul, mul-le-mul-left, mul-le-mul-right, mul-lt-mul-of-pos-right, lt-of-mul-lt-mul-right, le-of-mul-le-mul-right, le-mul-of-pos-right, eq-of-mul-eq-mul-right, zero-lt-suc}
 use native.Mathlib.Omega.{arith}
 use native.Mathlib.Decide.{decLe}
@@ -15,8 +15,8 @@ use lib.Ieee.Fits.{two, two-le-pos}
 use lib.Ieee.Exact.{HasValue, odd-sign}
 use lib.Ieee.Positive.{positive}
 use Rattle.floats.specs.Sqrt.{sqrtIn}
-use Rattle.floats.specs.Held.{held}
-use Rattle.floats.specs.Near.{Near, square-suc, square-odd, root-near, sqrt-value}
+use Rattle.floats.proofs.Held.{fits-held}
+use Rattle.floats.proofs.Near.{Near, square-suc, square-odd, root-near, sqrt-value}
 
 -- y, which is q * 2 ^ k units of 2 ^ -l, is nearest to the root of x, which is n units. The root itself is √(n * 2 ^ l) units.
 pub record Nearest (p l : ℕ) (x y : Float) : Type 0 where
@@ -212,4 +212,4 @@ sqrt-nearest f nan h p = absurd p
 sqrt-nearest f (inf s) h p = absurd p
 sqrt-nearest f (fin true m e) h p = absurd p
 sqrt-nearest f (fin false zero e) h p = absurd (lt-irrefl 0 (ltb→lt 0 0 p))
-sqrt-nearest f (fin false (suc m) e) h p = let g = held f false m e h in at-value f (suc m) e (zero-lt-suc m) (g .digits) (g .deep)
+sqrt-nearest f (fin false (suc m) e) h p = let g = fits-held f false m e h in at-value f (suc m) e (zero-lt-suc m) (g .digits) (g .deep)

@@ -12,8 +12,8 @@ use lib.Ieee.{Float, nan, inf, fin, up, down, lt, le, eq, isNan}
 use lib.Ieee.Fits.{down-pos}
 use lib.Ieee.Positive.{through}
 use borrow.Author.Tests.{ltb-true, ltb-false, leb-true, eqb-true, eqb-false, lt-ltb, le-leb, lt-leb, eq-eqb, ne-eqb}
-use Rattle.basics.specs.Bools.{which, by-test, clash, and-both, both}
-use Rattle.basics.specs.Laws.{at-most}
+use Rattle.basics.proofs.Bools.{which, by-test, clash, and-both, both}
+use Rattle.basics.proofs.Numbers.{at-most}
 
 -- ---- `<=` of two finite values in one comparison: of ±a and ±b, the two over a common denominator
 abbrev upTo : Bool → ℕ → Bool → ℕ → Bool

@@ -9,23 +9,22 @@ use lib.Dec.{eqb}
 use lib.ListN.{length}
 use lib.Ieee.{Float, nan, inf, fin, lt, le, eq}
 use borrow.Author.Tests.{eqb-true, not-true}
-use Rattle.basics.specs.Bools.{by-test, both, and-left, and-both, or-true, clash}
+use Rattle.basics.proofs.Bools.{by-test, both, and-left, and-both, or-true, clash}
 use Rattle.basics.specs.Lists.{all}
 use Rattle.basics.specs.Refusals.{fault, Answer, success, answer}
 use Rattle.floats.specs.Rounded.{zeroF, pow2}
 use Rattle.floats.specs.Tests.{finite, sameBits}
-use Rattle.floats.specs.Order.{lt-is-not-le, le-join, eq-turn}
-use Rattle.floats.specs.Upto.{upto-finite}
+use Rattle.floats.proofs.Order.{lt-is-not-le, le-join, eq-turn}
+use Rattle.floats.proofs.Upto.{upto-finite}
 use Rattle.geometry.specs.declared.Position.{Position}
 use Rattle.geometry.specs.Position.{coords, positionOf, dimension, coordinate}
-use Rattle.geometry.specs.Axes.{all-coords, coords-of}
+use Rattle.geometry.proofs.Axes.{all-coords, coords-of, entries-of}
 use Rattle.grid.specs.declared.Divisions.{Divisions}
 use Rattle.grid.specs.Divisions.{counts, division}
-use Rattle.grid.specs.Shares.{counts-of}
 use Rattle.grid_search.specs.declared.GridSearch.{GridSearch}
-use Rattle.grid_search.specs.Sheet.{toleranceOf, borderOf, build, sheetTests, newSheet, samePosition, sameDivisions, sameSheet, agrees, sheetOk}
-use Rattle.grid_search.specs.Sizes.{sized-finite, finite-number, above-zero}
-use Rattle.grid_search.specs.Sound.{divisionsFrom, xminFrom, xmaxFrom, sound}
+use Rattle.grid_search.specs.Sheet.{toleranceOf, borderOf, sheetFrom, sheetTests, newSheet, samePosition, sameDivisions, sameSheet, agrees, sheetOk}
+use Rattle.grid_search.proofs.Sizes.{sized-finite, finite-number, above-zero}
+use Rattle.grid_search.proofs.Settings.{divisionsFrom, xminFrom, xmaxFrom, of-settings}
 
 -- ---- the settings that a sheet keeps, and what they give
 abbrev pub lowOf : GridSearch → List Float
@@ -35,7 +34,7 @@ abbrev pub highOf : GridSearch → List Float
 highOf s = coords (s .ndim) (s .high)
 
 abbrev pub rebuilt : GridSearch → GridSearch
-rebuilt s = build (lowOf s) (highOf s) (s .number) (s .tolerance) (s .«border_tol»)
+rebuilt s = sheetFrom (lowOf s) (highOf s) (s .number) (s .tolerance) (s .«border_tol»)
 
 abbrev pub remade : GridSearch → Answer GridSearch
 remade s = newSheet (lowOf s) (highOf s) (s .number) (s .tolerance) (s .«border_tol»)
@@ -157,12 +156,12 @@ pub record Good (s : GridSearch) : Type 0 where
   pub made : remade s ≡ success (rebuilt s)
 
 pub good : (s : GridSearch) → sheetOk s ≡ true → Good s
-unfolding build newSheet
+unfolding sheetFrom newSheet
 good s ok =
     let k = kept s ok in
     let lo = lowOf s in
     let hi = highOf s in
-    let o = sound lo hi (s .number) (s .tolerance) (s .«border_tol») (k .passed) in
+    let o = of-settings lo hi (s .number) (s .tolerance) (s .«border_tol») (k .passed) in
     let f = same-fields s (rebuilt s) (k .same) in
     let e : length lo ≡ s .ndim = sym (f .ndim) in
     let d : dimension (s .ndim) ≡ true = rw e at (o .tests .axes) in
@@ -171,7 +170,7 @@ good s ok =
     let xmax = xmaxFrom lo hi (s .number) (s .tolerance) (s .«border_tol») in
     record {
       axes = d;
-      divisions = rw (f .ndiv, counts-of (s .ndim) (divisionsFrom lo hi (s .number) (s .tolerance) (s .«border_tol»)) d (o .counts-length ∙ e)) (o .divisions);
+      divisions = rw (f .ndiv, entries-of 1 (s .ndim) (divisionsFrom lo hi (s .number) (s .tolerance) (s .«border_tol»)) d (o .counts-length ∙ e)) (o .divisions);
       low = o .limits .low;
       high = o .limits .high;
       tolerance = o .limits .tolerance-finite;

@@ -6,22 +6,21 @@ use native.Mathlib.Nat.{le-trans, le-of-eq, le-of-lt, lt-of-lt-of-le, lt-of-le-o
 use native.Mathlib.Omega.{arith}
 use native.Mathlib.Decide.{decLe}
 use mathlib.Core.Bool.{Bool, true, false, _&&_, _||_, and-false}
-use mathlib.Core.List.{List, [], _∷_}
 use lib.Dec.{T, ltb, lt→ltb}
 use lib.Pow.{pow-add, pow-pos, pow-mono, shl-lt}
-use lib.IntN.{ℤ, pos}
-use lib.Ieee.{Float, nan, inf, fin, binary64, up, down, fits, le, ofBits}
+use lib.IntN.{ℤ}
+use lib.Ieee.{Float, nan, inf, fin, binary64, up, down, fits, le}
 use lib.Ieee.Exact.{HasValue}
 use lib.Ieee.Fits.{down-pos}
 use borrow.Author.Tests.{le-ltb, ltb-true}
-use Rattle.basics.specs.Bools.{by-test, clash}
+use Rattle.basics.proofs.Bools.{by-test, clash}
 use Rattle.floats.specs.Rounded.{zeroF}
 use Rattle.floats.specs.Tests.{finite}
 use Rattle.floats.specs.Sqrt.{sqrtOf, sqrtIn}
-use Rattle.floats.specs.Held.{held}
-use Rattle.floats.specs.Near.{square-double}
-use Rattle.floats.specs.Exact.{Nearest, sqrt-nearest, in-units}
-use Rattle.floats.specs.Roots.{below-zero}
+use Rattle.floats.proofs.Held.{fits-held}
+use Rattle.floats.proofs.Near.{square-double}
+use Rattle.floats.proofs.Exact.{Nearest, sqrt-nearest, in-units}
+use Rattle.floats.proofs.Roots.{below-zero}
 
 -- The size of a finite value in units of 2 ^ -1074, the smallest value of binary64: every value of binary64 is a whole number of them.
 unfoldable pub units : Float → ℕ
@@ -171,7 +170,7 @@ in-places : (s : Bool) (m : ℕ) (e : ℤ) → T (fits binary64 (fin s m e)) →
 unfolding units
 in-places s zero e h = (0, 0, pow-pos 53, units-zero s e)
 in-places s (suc m) e h =
-    let g = held binary64 s m e h in
+    let g = fits-held binary64 s m e h in
     let u = in-units 1074 (suc m) e (g .deep) in
     (suc m, u .0, g .digits, ap (λ (c : ℕ). c / down e) (u .1) ∙ mul-div-cancel (suc m * 2 ^ u .0) (down-pos e))
 
@@ -219,18 +218,3 @@ none-nearer x (fin s m e) h k f z = go x h f z
     go (fin t zero d) h f z = rw (units-zero t d) (of-zero s (units (fin s m e)))
     go (fin true (suc n) d) h f z = clash z (below-zero n d)
     go (fin false (suc n) d) h f z = from-nearest (fin false (suc n) d) (sqrtOf (fin false (suc n) d)) (sqrt-nearest binary64 (fin false (suc n) d) h (lt→ltb 0 (suc n) (zero-lt-suc n))) s m e k
-
--- ---- values: the root of 2, and the values just above and just below it. The test tells them apart: the root is nearer than the one below.
-at-2 : List Bool
-unfolding nearerRoot sqrtOf ofBits
-at-2 =
-    let two = fin false 1 (pos 1) in
-    let root = sqrtOf two in
-    nearerRoot two root (ofBits binary64 0x3FF6_A09E_667F_3BCE)
-    ∷ nearerRoot two root (ofBits binary64 0x3FF6_A09E_667F_3BCC)
-    ∷ nearerRoot two (ofBits binary64 0x3FF6_A09E_667F_3BCC) root
-    ∷ []
-
-only-the-last : at-2 ≡ false ∷ false ∷ true ∷ []
-unfolding at-2
-only-the-last = refl

@@ -12,13 +12,13 @@ use Rattle.basics.specs.Lists.{all, zipWith}
 use Rattle.floats.specs.Rounded.{_⊖_, _⊘_, truncate}
 use Rattle.geometry.specs.declared.Position.{Position}
 use Rattle.geometry.specs.Position.{coords, dimension}
-use Rattle.geometry.specs.Axes.{for-axes, entries-of}
+use Rattle.geometry.proofs.Axes.{for-axes, entries-of}
 use Rattle.grid.specs.declared.Divisions.{Divisions}
 use Rattle.grid.specs.declared.Located.the-variants.{Key, Exceeds}
 use Rattle.grid.specs.declared.Pivot.{Pivot}
 use Rattle.grid.specs.Divisions.{counts, divisionsOf, division}
-use Rattle.grid.specs.Keys.{pivots-below}
-use Rattle.grid.specs.Bounds.{Bounds, bounds, three-small}
+use Rattle.grid.proofs.Keys.{pivots-below}
+use Rattle.grid.proofs.Bounds.{Bounds, bounds, three-small}
 use Rattle.grid.specs.Containers.{ratios, exceed, inner, combine, keyOf, located, containers, indices, pivotOf, pivots}
 
 module _ (n : ℕ) (h : dimension n ≡ true) (d e : Divisions) (u : e ≡ divisionsOf (counts n d)) where

@@ -17,10 +17,10 @@ use lib.Ieee.Fits.{up-pos, down-pos, round-is}
 use lib.Ieee.Order.{transfer, le-of-values, round-mono, kept, drop}
 use lib.Ieee.Scale.{grid, overflow, round-val}
 use borrow.Author.Tests.{ltb-true, ltb-false, eqb-true, lt-ltb, le-ltb}
-use Rattle.basics.specs.Bools.{by-test, and-left, or-either}
+use Rattle.basics.proofs.Bools.{by-test, and-left, or-either}
 use Rattle.floats.specs.Rounded.{_⊕_, _⊖_, _⊗_, _⊘_, ofNat, truncate, zeroF, pow2}
 use Rattle.floats.specs.Tests.{finite, within, maxOf}
-use Rattle.floats.specs.Choice.{max-either}
+use Rattle.floats.proofs.Choice.{max-either}
 
 abbrev pub Upto : ℕ → Float → Type 0
 Upto n nan = ⊥
