@@ -17,7 +17,7 @@ use Rattle.cell_search.specs.declared.FoundCell.the-variants.{Cell, Nothing, Re
 use Rattle.cell_index.specs.Index.{goodIndex, soundIndex}
 use Rattle.cell_search.specs.Search.{CellSearch, foundCell, leaves}
 use Rattle.capi.specs.Cells.{cellsNumbers, cellsFloats, cellsLengths}
-use Rattle.capi.specs.Indexes.{readIndex, noIndex, indexOf, ToldCell}
+use Rattle.capi.specs.Indexes.{readIndex, indexOf, ToldCell}
 use Rattle.capi.proofs.Libraries.{told-id, told-nothing, told-away}
 
 -- ---- reading
@@ -27,7 +27,7 @@ no-first [] e = refl
 no-first (n ∷ l) e = absurd (omega arith)
 
 module _ (numbers : List ℕ) (floats : List Float) where
-  pub other-lists : {n : ℕ} {g : GridCells} → n ≡ getD numbers 0 0 → g ≡ noIndex n → cellsLengths numbers floats ≡ false → g ≡ indexOf numbers floats
+  pub other-lists : {n : ℕ} {g : GridCells} → n ≡ getD numbers 0 0 → g ≡ readIndex (n ∷ []) [] → cellsLengths numbers floats ≡ false → g ≡ indexOf numbers floats
   unfolding indexOf
   other-lists e f h = f ∙ rw (h, e)
 
@@ -40,7 +40,7 @@ module _ (numbers : List ℕ) (floats : List Float) where
 
   -- 13
   pub other-lengths : cellsLengths numbers floats ≡ false → (n : ℕ) (l : IndexLists) → soundIndex (indexOf numbers floats) n l ≡ false
-  unfolding indexOf soundIndex goodIndex le
+  unfolding indexOf readIndex soundIndex goodIndex le
   other-lengths e n l = rw e
 
 pub read-back : (g : GridCells) → indexOf (cellsNumbers g) (cellsFloats g) ≡ g

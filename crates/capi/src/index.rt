@@ -1,10 +1,11 @@
 // A cell index that is handed in, and the search of it.
 ghost use mathlib.Core.Path.{_≡_};
+ghost use mathlib.Core.List.{[], _∷_};
 ghost use lib.ListN.{length, getD};
 ghost use Rattle.mesh.specs.Mesh.{meshOf};
 ghost use Rattle.grid_cells.specs.Build.{indexLists};
 ghost use Rattle.cell_search.specs.Search.{cellSearch};
-ghost use Rattle.capi.specs.Indexes.{readIndex, noIndex, indexOf, ToldCell};
+ghost use Rattle.capi.specs.Indexes.{readIndex, indexOf, ToldCell};
 use crate::cells::have_lengths;
 use crate::sheet::position_at;
 use cell_search::FoundCell;
@@ -35,21 +36,22 @@ fn read_index(numbers: &[u64], floats: &[f64]) -> GridCells
     }
 }
 
-// What stands for lists of another length: an index of that dimension whose side is 0, which no search takes for good.
+// What stands for lists of another length: an index of that dimension whose side is no number, which no search takes for good.
 fn no_index(ndim: usize) -> GridCells
-    ensures { λ r. ⌜ r ≡ noIndex ndim ⌝ }
+    ensures { λ r. ⌜ r ≡ readIndex (ndim ∷ []) [] ⌝ }
 {
-    let origin = Position {
-        x: 0.0,
-        y: 0.0,
-        z: 0.0,
+    let nan = 0.0 / 0.0;
+    let nowhere = Position {
+        x: nan,
+        y: nan,
+        z: nan,
     };
     GridCells {
         ndim,
         ndiv: Divisions { x: 0, y: 0, z: 0 },
-        side_length: 0.0,
-        xmin: origin,
-        xmax: origin,
+        side_length: nan,
+        xmin: nowhere,
+        xmax: nowhere,
         used: 0,
         large: 0,
     }

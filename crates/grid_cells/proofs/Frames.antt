@@ -45,7 +45,7 @@ pub frame-divided : (low high : List Float) (ns : List ℕ) {r : ℕ} → r ≡ 
 unfolding divisionTests all
 frame-divided low high ns e z =
     let p = unrefused (divisionTests low high ns) (code-none (divisionTests low high ns) (numbers low high ns) (sym z ∙ e)) in
-    divided ns (or-right (not (above low high)) (any (λ (d : ℕ). eqb d 0) ns) (p .0)) (p .1 .0)
+    divided ns (or-right (not (inOrder low high)) (any (λ (d : ℕ). eqb d 0) ns) (p .0)) (p .1 .0)
 
 after-first : (n : ℕ) (w : Measured) (t : Settings) → nothingFiled w ≡ false → fault (frameTests n w t) ≡ fault (divisionTests (lowCorner w t) (highCorner w t) (counts n (index n w t .ndiv)))
 unfolding frameTests fault

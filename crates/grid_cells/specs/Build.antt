@@ -10,14 +10,14 @@ use lib.IntN.{negsuc}
 use lib.Ieee.{Float, fin, binary64, round, lt, le}
 use Rattle.basics.specs.Lists.{all, any, zipWith, over}
 use Rattle.basics.specs.Refusals.{Test, refuse, fault, Answer, refused, success}
-use Rattle.floats.specs.Rounded.{_⊕_, _⊖_, _⊗_, _⊘_, truncate, zeroF, pow2, pow2⁻}
+use Rattle.floats.specs.Rounded.{_⊕_, _⊖_, _⊗_, _⊘_, truncate, zeroF, pow2}
 use Rattle.floats.specs.Tests.{finite}
 use Rattle.floats.specs.Ceil.{ceilOf}
 use Rattle.geometry.specs.Position.{positionOf, dimension, coordinate}
 use Rattle.grid.specs.Divisions.{counts, divisionsOf}
 use Rattle.grid_search.specs.declared.GivenF64.{GivenF64}
 use Rattle.grid_search.specs.declared.GivenF64.the-variants.{LeftOut, Given}
-use Rattle.grid_search.specs.Sheet.{toleranceOf, borderOf, lowered, raised, coveredOf, inOrder}
+use Rattle.grid_search.specs.Sheet.{toleranceOf, borderOf, lowered, raised, coveredOf, pastLimits, inOrder}
 use Rattle.mesh.specs.Mesh.{Mesh, Box, cellCount, meshTooLong, brokenMesh, least, greatest}
 use Rattle.table.specs.Rows.{Slot}
 use Rattle.cell_sizes.specs.declared.Settings.{Settings}
@@ -140,18 +140,10 @@ unfoldable pub notPart : Float → Bool
 unfolding lt
 notPart v = lt v zeroF || lt (pow2 0) v
 
--- 3 is not the case: each setting is finite, and neither is the tolerance or the border above 1,024, nor a tolerance above 0 below 1/1,048,576
-unfoldable pub finiteSettings : Settings → Bool
-unfolding finite
-finiteSettings t = finite (t .tolerance) && (finite (t .«border_tol») && (finite (t .«large_cutoff») && finite (t .«large_pct»)))
-
-unfoldable pub pastLimits : Settings → Bool
-unfolding lt
-pastLimits t = lt (pow2 10) (t .tolerance) || (lt (pow2 10) (t .«border_tol») || (lt zeroF (t .tolerance) && lt (t .tolerance) (pow2⁻ 20)))
-
+-- 3 is not the case: each setting is finite, and tolerance and border are within their limits
 unfoldable pub settingsOk : Settings → Bool
-unfolding finiteSettings pastLimits
-settingsOk t = finiteSettings t && not (pastLimits t)
+unfolding all finite pastLimits
+settingsOk t = all finite (t .tolerance ∷ t .«border_tol» ∷ t .«large_cutoff» ∷ t .«large_pct» ∷ []) && not (pastLimits (t .tolerance) (t .«border_tol»))
 
 -- the coordinates and the settings: 3, 8, 9, 20, 21
 unfoldable pub settingTests : List Float → Settings → List Test
@@ -171,8 +163,8 @@ cellTests n m = refuse 18 (eqb (cellCount n m) 0) ∷ []
 
 -- the corners and the divisions: 22, 6
 unfoldable pub divisionTests : List Float → List Float → List ℕ → List Test
-unfolding above any
-divisionTests low high ns = refuse 22 (not (above low high) || any (λ (d : ℕ). eqb d 0) ns) ∷ refuse 6 (any (λ (d : ℕ). ltb 1024 d) ns) ∷ []
+unfolding inOrder any
+divisionTests low high ns = refuse 22 (not (inOrder low high) || any (λ (d : ℕ). eqb d 0) ns) ∷ refuse 6 (any (λ (d : ℕ). ltb 1024 d) ns) ∷ []
 
 -- the index without rows: 23, 22, 6
 unfoldable pub frameTests : ℕ → Measured → Settings → List Test

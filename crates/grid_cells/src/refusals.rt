@@ -1,11 +1,13 @@
 // What turns a build away before anything is measured. Each function gives document 01's number, or 0.
 ghost use mathlib.Core.Path.{_≡_};
 ghost use mathlib.Core.Bool.{true, _&&_};
+ghost use mathlib.Core.List.{[], _∷_};
 ghost use Rattle.basics.specs.Lists.{all};
 ghost use Rattle.basics.specs.Refusals.{fault, code};
+ghost use Rattle.floats.specs.Tests.{finite};
 ghost use Rattle.geometry.specs.Position.{coordinate};
 ghost use Rattle.mesh.specs.Mesh.{meshOf};
-ghost use Rattle.grid_cells.specs.Build.{indexLists, listsTooLong, sizeTests, notPart, finiteSettings, pastLimits, settingsOk, settingTests};
+ghost use Rattle.grid_cells.specs.Build.{indexLists, listsTooLong, sizeTests, notPart, settingsOk, settingTests};
 ghost use Rattle.grid_cells.specs.Steps.{earlyTests};
 use cell_sizes::Settings;
 
@@ -45,26 +47,19 @@ fn is_no_part(v: f64) -> bool
 
 // Whether every setting is finite.
 fn are_finite(t: Settings) -> bool
-    ensures { λ r. ⌜ r ≡ finiteSettings t ⌝ }
+    ensures { λ r. ⌜ r ≡ all finite (t .tolerance ∷ t .«border_tol» ∷ t .«large_cutoff» ∷ t .«large_pct» ∷ []) ⌝ }
 {
     floats::is_finite(t.tolerance)
         & (floats::is_finite(t.border_tol)
             & (floats::is_finite(t.large_cutoff) & floats::is_finite(t.large_pct)))
 }
 
-// Whether tolerance or border is above 1,024, or a tolerance above 0 is below 1/1,048,576.
-fn past_limits(t: Settings) -> bool
-    ensures { λ r. ⌜ r ≡ pastLimits t ⌝ }
-{
-    (t.tolerance > 1024.0)
-        | ((t.border_tol > 1024.0) | ((t.tolerance > 0.0) & (t.tolerance < 9.5367431640625e-7)))
-}
-
 // Whether 3 is not the case.
 fn are_values_ok(coords: &[f64], t: Settings) -> bool
     ensures { λ r. ⌜ r ≡ (all coordinate (now (coords .entry)) && settingsOk t) ⌝ }
 {
-    geometry::all_coordinates(coords) & (are_finite(t) & !past_limits(t))
+    geometry::all_coordinates(coords)
+        & (are_finite(t) & !grid_search::past_limits(t.tolerance, t.border_tol))
 }
 
 // 3, 8, 9, 20 or 21: the coordinates and the settings.

@@ -7,7 +7,7 @@ use mathlib.Core.List.{List, [], _∷_, map}
 use lib.Dec.{ltb, eqb}
 use lib.ListN.{length, getD}
 use lib.Ieee.{Float, nan}
-use Rattle.basics.specs.Lists.{all, zipWith, tab}
+use Rattle.basics.specs.Lists.{all, zipWith, tab, foldAll}
 use Rattle.floats.specs.Tests.{minOf, maxOf}
 use Rattle.geometry.specs.declared.Position.{Position}
 use Rattle.geometry.specs.Position.{coords, dimension}
@@ -68,21 +68,13 @@ pub record Box : Type 0 where
   pub low : List Float
   pub high : List Float
 
--- axis by axis, from the first of the points on
-unfoldable pub foldPoints : (Float → Float → Float) → List Float → List (List Float) → List Float
-unfolding zipWith
-foldPoints f p [] = p
-foldPoints f p (q ∷ qs) = foldPoints f (zipWith f p q) qs
-
 unfoldable pub least : List (List Float) → List Float
-unfolding foldPoints minOf
-least [] = []
-least (p ∷ ps) = foldPoints minOf p ps
+unfolding foldAll zipWith minOf
+least ps = foldAll (zipWith minOf) [] ps
 
 unfoldable pub greatest : List (List Float) → List Float
-unfolding foldPoints maxOf
-greatest [] = []
-greatest (p ∷ ps) = foldPoints maxOf p ps
+unfolding foldAll zipWith maxOf
+greatest ps = foldAll (zipWith maxOf) [] ps
 
 unfoldable pub boxOf : ℕ → Mesh → ℕ → Box
 unfolding least greatest cornerPoints

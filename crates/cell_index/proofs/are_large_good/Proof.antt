@@ -25,46 +25,10 @@ returns c = let a = c .before .args in no-numbers (a .ncell) (a .n) (a .large .n
 loop-holds : tie.Need-loop-holds Inv-loop μ-loop
 loop-holds c = let a = c .before .args in (omega (arith, c .if1 .left), numbers-linked (a .ncell) (a .n) (a .large .now) (c .before .pre))
 
-add-loop : tie.Need-add-loop Inv-loop μ-loop
-add-loop c = search needs
-
-mul-ok : tie.Need-mul-ok Inv-loop μ-loop
-mul-ok c = search needs
-
-shared-slice-read-ok : tie.Need-shared-slice-read-ok Inv-loop μ-loop
-shared-slice-read-ok c = search needs
-
-mul-ok-2 : tie.Need-mul-ok-2 Inv-loop μ-loop
-mul-ok-2 c = search needs
-
-shared-slice-read-ok-2 : tie.Need-shared-slice-read-ok-2 Inv-loop μ-loop
-shared-slice-read-ok-2 c = search needs
-
-add-ok : tie.Need-add-ok Inv-loop μ-loop
-add-ok c = search needs
-
-mul-ok-3 : tie.Need-mul-ok-3 Inv-loop μ-loop
-mul-ok-3 c = search needs
-
-shared-slice-read-ok-3 : tie.Need-shared-slice-read-ok-3 Inv-loop μ-loop
-shared-slice-read-ok-3 c = search needs
-
-add-i : tie.Need-add-i Inv-loop μ-loop
-add-i c = search needs
-
-loop-less : tie.Need-loop-less Inv-loop μ-loop
-loop-less c = search needs
-
 loop-again : tie.Need-loop-again Inv-loop μ-loop
 loop-again c = let l = c .before .before .before .before in
     let a = l .before .before .args in
     (omega arith, l .loop .inv .1 ∙ linked-turn (λ (k : ℕ). ltb k (a .ncell)) ltb (a .n) (λ (i : ℕ). getD (a .large .now) i 0) (l .loop .i) (l .loop .ok) (omega arith))
-
-mul-result : tie.Need-mul-result Inv-loop μ-loop
-mul-result c = search needs
-
-shared-slice-read-result : tie.Need-shared-slice-read-result Inv-loop μ-loop
-shared-slice-read-result c = search needs
 
 returns-2 : tie.Need-returns-2 Inv-loop μ-loop
 returns-2 c = let l = c .before .before in
@@ -79,17 +43,17 @@ are-large-good-spec =
     μ-loop
     returns
     loop-holds
-    add-loop
-    mul-ok
-    shared-slice-read-ok
-    mul-ok-2
-    shared-slice-read-ok-2
-    add-ok
-    mul-ok-3
-    shared-slice-read-ok-3
-    add-i
-    loop-less
+    (λ c. search needs)
+    (λ c. search needs)
+    (λ c. search needs)
+    (λ c. search needs)
+    (λ c. search needs)
+    (λ c. search needs)
+    (λ c. search needs)
+    (λ c. search needs)
+    (λ c. search needs)
+    (λ c. search needs)
     loop-again
-    mul-result
-    shared-slice-read-result
+    (λ c. search needs)
+    (λ c. search needs)
     returns-2)

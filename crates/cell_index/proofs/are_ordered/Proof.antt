@@ -6,9 +6,6 @@ use Rattle.cell_index.proofs.Sound.{ordered-tests}
 use Rattle.cell_index.proofs.are_ordered.Statement.{statement}
 use Rattle.cell_index.proofs.are_ordered.Tie as tie
 
-on-every-axis-requires : tie.Need-on-every-axis-requires
-on-every-axis-requires c κs = search needs
-
 returns : tie.Need-returns
 unfolding zipWith
 returns c =
@@ -16,4 +13,4 @@ returns c =
     rw (ordered-tests (a .ndim) (a .xmin .x ∷ a .xmin .y ∷ a .xmin .z ∷ []) (a .xmax .x ∷ a .xmax .y ∷ a .xmax .z ∷ [])) (c .on-every-axis .ensures)
 
 pub are-ordered-spec : {M : Type 1} → statement M
-are-ordered-spec = tie.close (tie.spec on-every-axis-requires returns)
+are-ordered-spec = tie.close (tie.spec (λ c κs. search needs) returns)

@@ -26,60 +26,6 @@ loop-holds : tie.Need-loop-holds Inv-loop μ-loop
 loop-holds c = let a = c .before .before .before .args in
     (omega (arith, c .if1 .left), rows-linked (a .count) (a .ncell) (slotsOf (a .keys .now) (a .cells .now) (a .used)))
 
-add-loop : tie.Need-add-loop Inv-loop μ-loop
-add-loop c = search needs
-
-mul-ok : tie.Need-mul-ok Inv-loop μ-loop
-mul-ok c = search needs
-
-shared-slice-read-ok : tie.Need-shared-slice-read-ok Inv-loop μ-loop
-shared-slice-read-ok c = search needs
-
-mul-ok-2 : tie.Need-mul-ok-2 Inv-loop μ-loop
-mul-ok-2 c = search needs
-
-shared-slice-read-ok-2 : tie.Need-shared-slice-read-ok-2 Inv-loop μ-loop
-shared-slice-read-ok-2 c = search needs
-
-mul-ahead : tie.Need-mul-ahead Inv-loop μ-loop
-mul-ahead c = search needs
-
-shared-slice-read-ahead : tie.Need-shared-slice-read-ahead Inv-loop μ-loop
-shared-slice-read-ahead c = search needs
-
-mul-ahead-2 : tie.Need-mul-ahead-2 Inv-loop μ-loop
-mul-ahead-2 c = search needs
-
-shared-slice-read-ahead-2 : tie.Need-shared-slice-read-ahead-2 Inv-loop μ-loop
-shared-slice-read-ahead-2 c = search needs
-
-add-ahead : tie.Need-add-ahead Inv-loop μ-loop
-add-ahead c = search needs
-
-mul-ahead-3 : tie.Need-mul-ahead-3 Inv-loop μ-loop
-mul-ahead-3 c = search needs
-
-shared-slice-read-ahead-3 : tie.Need-shared-slice-read-ahead-3 Inv-loop μ-loop
-shared-slice-read-ahead-3 c = search needs
-
-add-ahead-2 : tie.Need-add-ahead-2 Inv-loop μ-loop
-add-ahead-2 c = search needs
-
-mul-ahead-4 : tie.Need-mul-ahead-4 Inv-loop μ-loop
-mul-ahead-4 c = search needs
-
-shared-slice-read-ahead-4 : tie.Need-shared-slice-read-ahead-4 Inv-loop μ-loop
-shared-slice-read-ahead-4 c = search needs
-
-ahead-requires : tie.Need-ahead-requires Inv-loop μ-loop
-ahead-requires c κs = search needs
-
-add-i : tie.Need-add-i Inv-loop μ-loop
-add-i c = search needs
-
-loop-less : tie.Need-loop-less Inv-loop μ-loop
-loop-less c = search needs
-
 loop-again : tie.Need-loop-again Inv-loop μ-loop
 unfolding slotsOf goodSlot
 loop-again c = let l = c .before .before .before .before .before .before .before .before in
@@ -89,18 +35,6 @@ loop-again c = let l = c .before .before .before .before .before .before .before
     let i = l .loop .i in
     let turn = linked-turn good before (a .used) slot i (l .loop .ok) (omega arith) in
     (omega arith, l .loop .inv .1 ∙ turn ∙ ap (λ (t : Bool). (l .loop .ok && (good (slot i) && t)) && linked good before (drop (i + 1) (slotsOf (a .keys .now) (a .cells .now) (a .used)))) (sym (c .ahead .ensures)))
-
-mul-result : tie.Need-mul-result Inv-loop μ-loop
-mul-result c = search needs
-
-shared-slice-read-result : tie.Need-shared-slice-read-result Inv-loop μ-loop
-shared-slice-read-result c = search needs
-
-mul-result-2 : tie.Need-mul-result-2 Inv-loop μ-loop
-mul-result-2 c = search needs
-
-shared-slice-read-result-2 : tie.Need-shared-slice-read-result-2 Inv-loop μ-loop
-shared-slice-read-result-2 c = search needs
 
 returns-2 : tie.Need-returns-2 Inv-loop μ-loop
 unfolding slotsOf goodSlot
@@ -116,27 +50,27 @@ are-rows-good-spec =
     μ-loop
     returns
     loop-holds
-    add-loop
-    mul-ok
-    shared-slice-read-ok
-    mul-ok-2
-    shared-slice-read-ok-2
-    mul-ahead
-    shared-slice-read-ahead
-    mul-ahead-2
-    shared-slice-read-ahead-2
-    add-ahead
-    mul-ahead-3
-    shared-slice-read-ahead-3
-    add-ahead-2
-    mul-ahead-4
-    shared-slice-read-ahead-4
-    ahead-requires
-    add-i
-    loop-less
+    (λ c. search needs)
+    (λ c. search needs)
+    (λ c. search needs)
+    (λ c. search needs)
+    (λ c. search needs)
+    (λ c. search needs)
+    (λ c. search needs)
+    (λ c. search needs)
+    (λ c. search needs)
+    (λ c. search needs)
+    (λ c. search needs)
+    (λ c. search needs)
+    (λ c. search needs)
+    (λ c. search needs)
+    (λ c. search needs)
+    (λ c κs. search needs)
+    (λ c. search needs)
+    (λ c. search needs)
     loop-again
-    mul-result
-    shared-slice-read-result
-    mul-result-2
-    shared-slice-read-result-2
+    (λ c. search needs)
+    (λ c. search needs)
+    (λ c. search needs)
+    (λ c. search needs)
     returns-2)

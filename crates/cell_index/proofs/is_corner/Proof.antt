@@ -4,12 +4,9 @@ use borrow.Author.Needs.{needs}
 use Rattle.cell_index.proofs.is_corner.Statement.{statement}
 use Rattle.cell_index.proofs.is_corner.Tie as tie
 
-is-within-requires : tie.Need-is-within-requires
-is-within-requires c κs = search needs
-
 returns : tie.Need-returns
 unfolding ofBits
 returns c = c .is-within .ensures
 
 pub is-corner-spec : {M : Type 1} → statement M
-is-corner-spec = tie.close (tie.spec is-within-requires returns)
+is-corner-spec = tie.close (tie.spec (λ c κs. search needs) returns)

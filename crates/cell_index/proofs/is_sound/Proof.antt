@@ -21,15 +21,9 @@ good c = sym (c .before .is-good .ensures) ∙ not-false _ (c .if1 .left)
 enough : (c : tie.Else2) → let s = start (c .before .before) in enoughEntries (s .args .grid) (lists s) ≡ true
 enough c = sym (c .before .are-enough .ensures) ∙ not-false _ (c .if2 .left)
 
-is-good-requires : tie.Need-is-good-requires
-is-good-requires c κs = search needs
-
 returns : tie.Need-returns
 unfolding soundIndex
 returns c = rw (sym (c .before .is-good .ensures) ∙ not-true _ (c .if1 .taken))
-
-are-enough-requires : tie.Need-are-enough-requires
-are-enough-requires c κs = search needs
 
 returns-2 : tie.Need-returns-2
 unfolding soundIndex
@@ -52,9 +46,9 @@ pub is-sound-spec : {M : Type 1} → statement M
 is-sound-spec =
     tie.close
     (tie.spec
-    is-good-requires
+    (λ c κs. search needs)
     returns
-    are-enough-requires
+    (λ c κs. search needs)
     returns-2
     container-count-requires
     are-rows-good-requires

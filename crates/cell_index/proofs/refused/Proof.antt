@@ -24,9 +24,6 @@ lists s = indexLists (s .args .keys .now) (s .args .cells .now) (s .args .large 
 axes : (c : tie.Else1) → dimension (start (c .before) .args .grid .ndim) ≡ true
 axes c = let s = start (c .before) in sizes-axes (s .args .grid .ndim) (mesh s) (lists s) (c .before .sizes-refused .ensures) (c .if1 .left)
 
-sizes-refused-requires : tie.Need-sizes-refused-requires
-sizes-refused-requires c κs = search needs
-
 returns : tie.Need-returns
 returns c = let s = start (c .before) in refuse-sizes (s .args .grid) (mesh s) (lists s) (c .before .sizes-refused .ensures) (c .if1 .taken)
 
@@ -68,7 +65,7 @@ pub refused-spec : {M : Type 1} → statement M
 refused-spec =
     tie.close
     (tie.spec
-    sizes-refused-requires
+    (λ c κs. search needs)
     returns
     is-broken-requires
     returns-2

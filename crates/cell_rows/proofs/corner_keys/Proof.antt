@@ -15,20 +15,8 @@ Inv-loop grid b keys₀ ncorner n₀ c₀ keys n c = (c ≤ ncorner) × Walked g
 abbrev μ-loop : tie.MeasureT-loop
 μ-loop grid b keys₀ ncorner n₀ c₀ keys n c = ncorner - c
 
-corner-count-requires : tie.Need-corner-count-requires Inv-loop μ-loop
-corner-count-requires c κs = search needs
-
 loop-holds : tie.Need-loop-holds Inv-loop μ-loop
 loop-holds c = (omega arith, walk-start (c .before .pre .0 .axes) (c .before .pre .1))
-
-box-corner-requires : tie.Need-box-corner-requires Inv-loop μ-loop
-box-corner-requires c κs = search needs
-
-container-requires : tie.Need-container-requires Inv-loop μ-loop
-container-requires c κs = search needs
-
-enum-known-key : tie.Need-enum-known-key Inv-loop μ-loop
-enum-known-key c = search needs
 
 enum-told : tie.Need-enum-told Inv-loop μ-loop
 enum-told c = search needs
@@ -48,12 +36,6 @@ join-once-requires c κs = let l = c .before .before .before .before .before .be
     let s = n .before in
     let w = l .before .loop .inv .1 in
     (w .size, omega (arith, corners-most (s .args .grid .ndim) (s .pre .0 .axes), n .corner-count .ensures, w .few, l .loop-test .taken))
-
-add-c : tie.Need-add-c Inv-loop μ-loop
-add-c c = search needs
-
-loop-less : tie.Need-loop-less Inv-loop μ-loop
-loop-less c = search needs
 
 loop-again : tie.Need-loop-again Inv-loop μ-loop
 loop-again c = let l = c .before .before .before .before .before .before .before in
@@ -78,15 +60,15 @@ corner-keys-spec =
     (tie.spec
     Inv-loop
     μ-loop
-    corner-count-requires
+    (λ c κs. search needs)
     loop-holds
-    box-corner-requires
-    container-requires
-    enum-known-key
+    (λ c κs. search needs)
+    (λ c κs. search needs)
+    (λ c. search needs)
     enum-told
     returns
     join-once-requires
-    add-c
-    loop-less
+    (λ c. search needs)
+    (λ c. search needs)
     loop-again
     returns-2)

@@ -22,12 +22,6 @@ loop-holds c = (refl, tally-start)
 bounding-box-requires : tie.Need-bounding-box-requires Inv-loop μ-loop
 bounding-box-requires c κs = let s = c .before .before .before .before in (s .pre .1 .0, omega (arith, s .pre .1 .1, c .loop-test .taken))
 
-cell-keys-requires : tie.Need-cell-keys-requires Inv-loop μ-loop
-cell-keys-requires c κs = search needs
-
-enum-known-more : tie.Need-enum-known-more Inv-loop μ-loop
-enum-known-more c = search needs
-
 enum-told : tie.Need-enum-told Inv-loop μ-loop
 enum-told c = search needs
 
@@ -42,12 +36,6 @@ add-n c = let s = c .before .before .before .before .before .before .before .bef
     let l = c .before .before .before .before .before .before in
     let held = rw (c .before .more .given .1) at (c .before .before .before .cell-keys .ensures) in
     omega (arith, held .few, l .before .loop .inv .1 .few, s .pre .1 .1, l .loop-test .taken)
-
-add-cell : tie.Need-add-cell Inv-loop μ-loop
-add-cell c = search needs
-
-loop-less : tie.Need-loop-less Inv-loop μ-loop
-loop-less c = search needs
 
 loop-again : tie.Need-loop-again Inv-loop μ-loop
 loop-again c = let s = c .before .before .before .before .before .before .before .before .before .before in
@@ -67,12 +55,12 @@ count-rows-spec =
     μ-loop
     loop-holds
     bounding-box-requires
-    cell-keys-requires
-    enum-known-more
+    (λ c κs. search needs)
+    (λ c. search needs)
     enum-told
     returns
     add-n
-    add-cell
-    loop-less
+    (λ c. search needs)
+    (λ c. search needs)
     loop-again
     returns-2)

@@ -10,21 +10,6 @@ use Rattle.mesh.specs.Mesh.{meshOf}
 use Rattle.cell_rows.proofs.file_cells.Statement.{statement}
 use Rattle.cell_rows.proofs.file_cells.Tie as tie
 
-pack-rows-requires : tie.Need-pack-rows-requires
-pack-rows-requires c κs = search needs
-
-sort-requires : tie.Need-sort-requires
-sort-requires c κs = search needs
-
-unpack-requires : tie.Need-unpack-requires
-unpack-requires c κs = search needs
-
-same-length : tie.Need-same-length
-same-length c = search needs
-
-same-length-2 : tie.Need-same-length-2
-same-length-2 c = search needs
-
 returns : tie.Need-returns
 returns c = let u = c .before .before .before .before in
     let t = u .before .before .before .before .before in
@@ -39,4 +24,4 @@ returns c = let u = c .before .before .before .before in
 pub file-cells-spec : {M : Type 1} → statement M
 file-cells-spec =
     tie.close
-    (tie.spec pack-rows-requires sort-requires unpack-requires same-length same-length-2 returns)
+    (tie.spec (λ c κs. search needs) (λ c κs. search needs) (λ c κs. search needs) (λ c. search needs) (λ c. search needs) returns)

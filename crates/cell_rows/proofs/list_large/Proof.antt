@@ -17,19 +17,10 @@ abbrev μ-loop : tie.MeasureT-loop
 loop-holds : tie.Need-loop-holds Inv-loop μ-loop
 loop-holds c = marking-start (c .before .before .before .pre .1 .1)
 
-bounding-box-requires : tie.Need-bounding-box-requires Inv-loop μ-loop
-bounding-box-requires c κs = search needs
-
 note-large-requires : tie.Need-note-large-requires Inv-loop μ-loop
 note-large-requires c κs = let s = c .before .before .before .before .before .before .before in
     let l = c .before .before in
     (s .pre .0 .axes, marking-room (s .pre .1 .1) (l .before .loop .inv) (omega (arith, s .pre .1 .0, l .loop-test .taken)) (c .before .bounding-box .ensures))
-
-add-cell : tie.Need-add-cell Inv-loop μ-loop
-add-cell c = search needs
-
-loop-less : tie.Need-loop-less Inv-loop μ-loop
-loop-less c = search needs
 
 loop-again : tie.Need-loop-again Inv-loop μ-loop
 loop-again c = let s = c .before .before .before .before .before .before .before .before .before .before in
@@ -50,10 +41,10 @@ list-large-spec =
     Inv-loop
     μ-loop
     loop-holds
-    bounding-box-requires
+    (λ c κs. search needs)
     note-large-requires
-    add-cell
-    loop-less
+    (λ c. search needs)
+    (λ c. search needs)
     loop-again
     same-length
     returns)

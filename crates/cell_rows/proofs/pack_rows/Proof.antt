@@ -19,14 +19,8 @@ abbrev μ-loop : tie.MeasureT-loop
 loop-holds : tie.Need-loop-holds Inv-loop μ-loop
 loop-holds c = (refl, packing-start (c .before .before .before .pre .1 .1 .1 .1))
 
-bounding-box-requires : tie.Need-bounding-box-requires Inv-loop μ-loop
-bounding-box-requires c κs = search needs
-
 cell-keys-requires : tie.Need-cell-keys-requires Inv-loop μ-loop
 cell-keys-requires c κs = (c .before .before .before .before .before .before .before .pre .0, c .before .before .before .loop .inv .0)
-
-enum-known-more : tie.Need-enum-known-more Inv-loop μ-loop
-enum-known-more c = search needs
 
 enum-told : tie.Need-enum-told Inv-loop μ-loop
 enum-told c = search needs
@@ -57,12 +51,6 @@ add-n c = let l = c .before .before .before .before .before .before .before .bef
     let room = packing-room (s .pre .1 .1 .1 .1) (l .before .loop .inv .1) (omega (arith, s .pre .1 .1 .0, l .loop-test .taken)) (b .ensures) held in
     omega (arith, room, packing-length (s .pre .1 .1 .1 .1) (l .before .loop .inv .1), s .good .1 .1 .1 .1 .1 .0 .0)
 
-add-cell : tie.Need-add-cell Inv-loop μ-loop
-add-cell c = search needs
-
-loop-less : tie.Need-loop-less Inv-loop μ-loop
-loop-less c = search needs
-
 loop-again : tie.Need-loop-again Inv-loop μ-loop
 loop-again c = let l = c .before .before .before .before .before .before .before .before .before .before .before in
     let s = l .before .before .before .before .before in
@@ -83,16 +71,16 @@ pack-rows-spec =
     Inv-loop
     μ-loop
     loop-holds
-    bounding-box-requires
+    (λ c κs. search needs)
     cell-keys-requires
-    enum-known-more
+    (λ c. search needs)
     enum-told
     same-length
     returns
     pack-cell-requires
     add-n
-    add-cell
-    loop-less
+    (λ c. search needs)
+    (λ c. search needs)
     loop-again
     same-length-2
     returns-2)

@@ -20,36 +20,6 @@ abbrev μ-loop : tie.MeasureT-loop
 loop-holds : tie.Need-loop-holds Inv-loop μ-loop
 loop-holds c = let s = c in (omega arith, (refl, (refl, (paste-zero (s .args .keys .now) 0 (map packedKey (s .args .keys .now)), paste-zero (s .args .cells .now) 0 (map packedCell (s .args .keys .now))))))
 
-mul-cells : tie.Need-mul-cells Inv-loop μ-loop
-mul-cells c = search needs
-
-slice-read-cells : tie.Need-slice-read-cells Inv-loop μ-loop
-slice-read-cells c = search needs
-
-mul-cells-2 : tie.Need-mul-cells-2 Inv-loop μ-loop
-mul-cells-2 c = search needs
-
-slice-write-cells : tie.Need-slice-write-cells Inv-loop μ-loop
-slice-write-cells c = search needs
-
-mul-keys : tie.Need-mul-keys Inv-loop μ-loop
-mul-keys c = search needs
-
-slice-read-keys : tie.Need-slice-read-keys Inv-loop μ-loop
-slice-read-keys c = search needs
-
-mul-keys-2 : tie.Need-mul-keys-2 Inv-loop μ-loop
-mul-keys-2 c = search needs
-
-slice-write-keys : tie.Need-slice-write-keys Inv-loop μ-loop
-slice-write-keys c = search needs
-
-add-i : tie.Need-add-i Inv-loop μ-loop
-add-i c = search needs
-
-loop-less : tie.Need-loop-less Inv-loop μ-loop
-loop-less c = search needs
-
 loop-again : tie.Need-loop-again Inv-loop μ-loop
 loop-again c = let s = c .before .before .before .before in
     let l = c .before .before .before .loop in
@@ -69,12 +39,6 @@ loop-again c = let s = c .before .before .before .before in
       ),
     )
 
-same-length : tie.Need-same-length Inv-loop μ-loop
-same-length c = search needs
-
-same-length-2 : tie.Need-same-length-2 Inv-loop μ-loop
-same-length-2 c = search needs
-
 returns : tie.Need-returns Inv-loop μ-loop
 returns c = let s = c .before .before in
     let l = c .before .loop in
@@ -88,17 +52,17 @@ unpack-spec =
     Inv-loop
     μ-loop
     loop-holds
-    mul-cells
-    slice-read-cells
-    mul-cells-2
-    slice-write-cells
-    mul-keys
-    slice-read-keys
-    mul-keys-2
-    slice-write-keys
-    add-i
-    loop-less
+    (λ c. search needs)
+    (λ c. search needs)
+    (λ c. search needs)
+    (λ c. search needs)
+    (λ c. search needs)
+    (λ c. search needs)
+    (λ c. search needs)
+    (λ c. search needs)
+    (λ c. search needs)
+    (λ c. search needs)
     loop-again
-    same-length
-    same-length-2
+    (λ c. search needs)
+    (λ c. search needs)
     returns)

@@ -4,15 +4,6 @@ use borrow.Author.Needs.{needs}
 use Rattle.cell_search.proofs.container_rows.Statement.{statement}
 use Rattle.cell_search.proofs.container_rows.Tie as tie
 
-first-of-requires : tie.Need-first-of-requires
-first-of-requires c κs = search needs
-
-add-first-of : tie.Need-add-first-of
-add-first-of c = search needs
-
-first-of-requires-2 : tie.Need-first-of-requires-2
-first-of-requires-2 c κs = search needs
-
 returns : tie.Need-returns
 returns c = let s = c .before .before .before .before in
     let a = s .args in
@@ -20,4 +11,4 @@ returns c = let s = c .before .before .before .before in
 
 pub container-rows-spec : {M : Type 1} → statement M
 container-rows-spec =
-    tie.close (tie.spec first-of-requires add-first-of first-of-requires-2 returns)
+    tie.close (tie.spec (λ c κs. search needs) (λ c. search needs) (λ c κs. search needs) returns)

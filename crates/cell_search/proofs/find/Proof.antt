@@ -7,9 +7,6 @@ use borrow.Author.Needs.{needs}
 use Rattle.cell_search.proofs.find.Statement.{statement}
 use Rattle.cell_search.proofs.find.Tie as tie
 
-container-rows-requires : tie.Need-container-rows-requires
-container-rows-requires c κs = search needs
-
 find-either-requires : tie.Need-find-either-requires
 find-either-requires c κs = let k = c .before in
     let s = k .before .before .before .before .before .before .before in
@@ -17,12 +14,9 @@ find-either-requires c κs = let k = c .before in
     let room = k .container-rows .ensures .room in
     (s .pre .0 .whole, (s .pre .0 .large, (record { room = omega (arith, cells .room, room); below = λ i h. cells .below i (omega (arith, room)) }, s .pre .1 .1)))
 
-same-length : tie.Need-same-length
-same-length c = search needs
-
 returns : tie.Need-returns
 unfolding candidates largeCells cellRows
 returns c = c .before .before .find-either .ensures ∙ rw (c .before .before .before .before .container-rows .ensures .are)
 
 pub find-spec : {M : Type 1} → statement M
-find-spec = tie.close (tie.spec container-rows-requires find-either-requires same-length returns)
+find-spec = tie.close (tie.spec (λ c κs. search needs) find-either-requires (λ c. search needs) returns)

@@ -36,9 +36,6 @@ bounding-box-requires c κs = let o = c .before in let s = o .before .before .be
 loop-holds : tie.Need-loop-holds Inv-loop μ-loop Inv-outer μ-outer
 loop-holds c = (refl, record { few = omega arith; walk = refl })
 
-is-beyond-requires : tie.Need-is-beyond-requires Inv-loop μ-loop Inv-outer μ-outer
-is-beyond-requires c κs = search needs
-
 add-at : tie.Need-add-at Inv-loop μ-loop Inv-outer μ-outer
 add-at c = omega (arith, c .before .before .before .before .before .before .before .before .before .before .before .before .pre .1 .0 .room, c .before .before .before .loop .inv .0)
 
@@ -52,12 +49,6 @@ outer-again c = let l = c .before .before .before in
     let s = o .before .before .before .before .before .before in
     let out = axis-fails (l .loop .inv .1) (s .pre .0 .axes) (c .before .before .loop-test .taken) (c .before .is-beyond .ensures) (c .if1 .taken) in
     rw (l .loop .inv .0) (seek-box (o .before .outer .inv) (s .pre .1 .0 .room) (o .outer-test .taken) (b .result) (b .ensures) out)
-
-add-i : tie.Need-add-i Inv-loop μ-loop Inv-outer μ-outer
-add-i c = search needs
-
-loop-less : tie.Need-loop-less Inv-loop μ-loop Inv-outer μ-outer
-loop-less c = search needs
 
 loop-again : tie.Need-loop-again Inv-loop μ-loop Inv-outer μ-outer
 loop-again c = let l = c .before .before .before in
@@ -102,9 +93,6 @@ outer-again-2 c = let z = c .before .before in
     let next = seek-coords (o .before .outer .inv) (s .pre .1 .0 .room) (o .outer-test .taken) (b .result) (b .ensures) in-box (z .cell-coords .ensures) (c .before .in-cell .ensures) (c .if2 .left) in
     rw (l .before .loop .inv .0) next
 
-same-length-2 : tie.Need-same-length-2 Inv-loop μ-loop Inv-outer μ-outer
-same-length-2 c = search needs
-
 returns-2 : tie.Need-returns-2 Inv-loop μ-loop Inv-outer μ-outer
 returns-2 c = seek-end (c .before .outer .inv) (c .before .before .before .before .before .before .pre .1 .0 .room) (c .outer-test .left)
 
@@ -121,12 +109,12 @@ find-cell-spec =
     shared-slice-read-cell-id
     bounding-box-requires
     loop-holds
-    is-beyond-requires
+    (λ c κs. search needs)
     add-at
     outer-less
     outer-again
-    add-i
-    loop-less
+    (λ c. search needs)
+    (λ c. search needs)
     loop-again
     cell-coords-requires
     in-cell-requires
@@ -136,5 +124,5 @@ find-cell-spec =
     add-at-2
     outer-less-2
     outer-again-2
-    same-length-2
+    (λ c. search needs)
     returns-2)

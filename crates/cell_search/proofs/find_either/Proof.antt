@@ -25,14 +25,8 @@ first s = slice (s .args .a .from) (s .args .a .to) (s .args .first .now)
 abbrev second : tie.Start → List ℕ
 second s = slice (s .args .b .from) (s .args .b .to) (s .args .second .now)
 
-find-cell-requires : tie.Need-find-cell-requires
-find-cell-requires c κs = search needs
-
 enum-told : tie.Need-enum-told
 enum-told c = search needs
-
-same-length : tie.Need-same-length
-same-length c = search needs
 
 returns : tie.Need-returns
 returns c = let f = c .before .before .before in
@@ -44,9 +38,6 @@ find-cell-requires-2 c κs = let f = c .before .before .before .before .before i
     let s = start f in
     (s .pre .0, (s .pre .1 .1 .0, f .find-cell .kept .1 .1 .1 .1 .1 .1 .1 .0 ∙ s .pre .1 .1 .1))
 
-same-length-2 : tie.Need-same-length-2
-same-length-2 c = search needs
-
 returns-2 : tie.Need-returns-2
 returns-2 c = let t = c .before .before .before .before in
     let f = t .before .before .before .before in
@@ -57,10 +48,10 @@ pub find-either-spec : {M : Type 1} → statement M
 find-either-spec =
     tie.close
     (tie.spec
-    find-cell-requires
+    (λ c κs. search needs)
     enum-told
-    same-length
+    (λ c. search needs)
     returns
     find-cell-requires-2
-    same-length-2
+    (λ c. search needs)
     returns-2)

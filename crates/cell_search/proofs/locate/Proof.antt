@@ -48,12 +48,6 @@ returns-2 : tie.Need-returns-2
 unfolding askedTests fault answer
 returns-2 c = rw (eq-eqb _ _ (c .before .before .if1 .left), ne-eqb _ _ (c .if2 .taken))
 
-all-coordinates-requires : tie.Need-all-coordinates-requires
-all-coordinates-requires c κs = search needs
-
-all-coordinates-requires-2 : tie.Need-all-coordinates-requires-2
-all-coordinates-requires-2 c κs = search needs
-
 returns-3 : tie.Need-returns-3
 unfolding askedTests fault answer
 returns-3 c = let p = c .before .before .before in
@@ -62,12 +56,6 @@ returns-3 c = let p = c .before .before .before in
     let wrong = rw (a .ensures, b .ensures) at (not-true (a .result && b .result) (c .if3 .taken)) in
     rw (eq-eqb _ _ (p .before .before .if1 .left), eq-eqb _ _ (p .if2 .left), wrong)
 
-new-requires : tie.Need-new-requires
-new-requires c κs = search needs
-
-is-outside-requires : tie.Need-is-outside-requires
-is-outside-requires c κs = search needs
-
 returns-4 : tie.Need-returns-4
 unfolding askedTests fault answer
 returns-4 c = let n = c .before .before in
@@ -75,14 +63,8 @@ returns-4 c = let n = c .before .before in
     let p = q .before .before .before in
     rw (eq-eqb _ _ (p .before .before .if1 .left), eq-eqb _ _ (p .if2 .left), coordinates q, outside-is (c .before) ∙ c .if4 .taken)
 
-containers-requires : tie.Need-containers-requires
-containers-requires c κs = search needs
-
 container-requires : tie.Need-container-requires
 container-requires c κs = rw (c .containers .ensures) (c .before .before .before .before .before .before .before .before .before .before .before .before .pre)
-
-enum-known-key : tie.Need-enum-known-key
-enum-known-key c = search needs
 
 enum-told : tie.Need-enum-told
 enum-told c = search needs
@@ -115,15 +97,15 @@ locate-spec =
     (tie.spec
     returns
     returns-2
-    all-coordinates-requires
-    all-coordinates-requires-2
+    (λ c κs. search needs)
+    (λ c κs. search needs)
     returns-3
-    new-requires
-    is-outside-requires
+    (λ c κs. search needs)
+    (λ c κs. search needs)
     returns-4
-    containers-requires
+    (λ c κs. search needs)
     container-requires
-    enum-known-key
+    (λ c. search needs)
     enum-told
     returns-5
     returns-6)

@@ -19,20 +19,11 @@ mesh s = meshOf (s .args .coords .now) (s .args .corners .now)
 abbrev lists : tie.Start → IndexLists
 lists s = indexLists (s .args .keys .now) (s .args .cells .now) (s .args .large .now)
 
-refused-requires : tie.Need-refused-requires
-refused-requires c κs = search needs
-
 returns : tie.Need-returns
 returns c = let s = start (c .before) in refuse-index (s .args .grid) (mesh s) (lists s) (s .args .zeta .now) (s .args .x .now) (c .before .refused .ensures) (c .if1 .taken)
 
 locate-requires : tie.Need-locate-requires
 locate-requires c κs = let s = start (c .before) in usable (s .args .grid) (mesh s) (lists s) (c .before .refused .ensures) (c .if1 .left) .keyed
-
-enum-known-at : tie.Need-enum-known-at
-enum-known-at c = search needs
-
-new-requires : tie.Need-new-requires
-new-requires c κs = search needs
 
 find-requires : tie.Need-find-requires
 find-requires c κs = let n = c .before in
@@ -44,12 +35,6 @@ find-requires c κs = let n = c .before in
     let key = ap asked (sym (a .at .given .1)) ∙ l .locate .ensures in
     let small = pass-key (s .args .grid) (mesh s) (lists s) (s .args .zeta .now) (s .args .x .now) r (e .if1 .left) key (n .new .ensures) in
     (usable (s .args .grid) (mesh s) (lists s) r (e .if1 .left), (small, pass-zeta (s .args .grid) (mesh s) (lists s) (s .args .zeta .now) (s .args .x .now) r (e .if1 .left) key))
-
-enum-known-at-2 : tie.Need-enum-known-at-2
-enum-known-at-2 c = search needs
-
-same-length : tie.Need-same-length
-same-length c = search needs
 
 returns-2 : tie.Need-returns-2
 returns-2 c = let f = c .before .before in
@@ -72,13 +57,13 @@ pub search-spec : {M : Type 1} → statement M
 search-spec =
     tie.close
     (tie.spec
-    refused-requires
+    (λ c κs. search needs)
     returns
     locate-requires
-    enum-known-at
-    new-requires
+    (λ c. search needs)
+    (λ c κs. search needs)
     find-requires
-    enum-known-at-2
-    same-length
+    (λ c. search needs)
+    (λ c. search needs)
     returns-2
     returns-3)

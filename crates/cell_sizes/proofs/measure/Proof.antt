@@ -11,12 +11,6 @@ use Rattle.mesh.specs.Mesh.{meshOf}
 use Rattle.cell_sizes.proofs.measure.Statement.{statement}
 use Rattle.cell_sizes.proofs.measure.Tie as tie
 
-surround-requires : tie.Need-surround-requires
-surround-requires c κs = search needs
-
-count-large-requires : tie.Need-count-large-requires
-count-large-requires c κs = search needs
-
 part-requires : tie.Need-part-requires
 part-requires c κs = let s = c .before .before .before .before .before .before .before in
     let m = meshOf (s .args .coords .now) (s .args .corners .now) in
@@ -47,4 +41,4 @@ returns-2 c = let u = c .before .before .before .before .before .before .before 
 
 pub measure-spec : {M : Type 1} → statement M
 measure-spec =
-    tie.close (tie.spec surround-requires count-large-requires part-requires returns returns-2)
+    tie.close (tie.spec (λ c κs. search needs) (λ c κs. search needs) part-requires returns returns-2)

@@ -31,18 +31,6 @@ framed : (c : tie.After-frame) → let s = start (c .before .before .before .bef
 unfolding cellCount
 framed c = c .frame .ensures (mesh (start (c .before .before .before .before))) (c .before .measure .ensures) (c .before .before .cell-count .ensures)
 
-refused-requires : tie.Need-refused-requires
-refused-requires c κs = search needs
-
-same-length : tie.Need-same-length
-same-length c = search needs
-
-same-length-2 : tie.Need-same-length-2
-same-length-2 c = search needs
-
-same-length-3 : tie.Need-same-length-3
-same-length-3 c = search needs
-
 returns : tie.Need-returns
 returns c = let s = start (c .before) in refuse-early (s .args .ndim) (mesh s) (s .args .settings) (lists s) (c .before .refused .ensures) (c .if1 .taken)
 
@@ -58,20 +46,8 @@ measure-requires c κs = let s = start (c .before .before) in
 frame-requires : tie.Need-frame-requires
 frame-requires c κs = let s = start (c .before .before .before) in measurable (s .args .ndim) (mesh s) (s .args .settings) (lists s) (passed (c .before .before)) .whole .axes
 
-enum-known-framed : tie.Need-enum-known-framed
-enum-known-framed c = search needs
-
 enum-told : tie.Need-enum-told
 enum-told c = search needs
-
-same-length-4 : tie.Need-same-length-4
-same-length-4 c = search needs
-
-same-length-5 : tie.Need-same-length-5
-same-length-5 c = search needs
-
-same-length-6 : tie.Need-same-length-6
-same-length-6 c = search needs
 
 returns-2 : tie.Need-returns-2
 returns-2 c = let f = c .before .before in
@@ -85,15 +61,6 @@ finish-requires c κs = let f = c .before .before .before .before .before .befor
     let g = c .before .before .before .before .framed in
     rw (f .before .before .cell-count .ensures) (finishable (s .args .ndim) (mesh s) (s .args .settings) (lists s) (passed (f .before .before .before)) (framed f) (g .given .1) (f .before .measure .ensures))
 
-same-length-7 : tie.Need-same-length-7
-same-length-7 c = search needs
-
-same-length-8 : tie.Need-same-length-8
-same-length-8 c = search needs
-
-same-length-9 : tie.Need-same-length-9
-same-length-9 c = search needs
-
 returns-3 : tie.Need-returns-3
 returns-3 c = let q = c .before .before .before .before .before .before in
     let f = q .before .before .before .before .before .before .before in
@@ -105,22 +72,22 @@ pub build-by-spec : {M : Type 1} → statement M
 build-by-spec =
     tie.close
     (tie.spec
-    refused-requires
-    same-length
-    same-length-2
-    same-length-3
+    (λ c κs. search needs)
+    (λ c. search needs)
+    (λ c. search needs)
+    (λ c. search needs)
     returns
     cell-count-requires
     measure-requires
     frame-requires
-    enum-known-framed
+    (λ c. search needs)
     enum-told
-    same-length-4
-    same-length-5
-    same-length-6
+    (λ c. search needs)
+    (λ c. search needs)
+    (λ c. search needs)
     returns-2
     finish-requires
-    same-length-7
-    same-length-8
-    same-length-9
+    (λ c. search needs)
+    (λ c. search needs)
+    (λ c. search needs)
     returns-3)

@@ -35,14 +35,8 @@ count : (c : tie.After-count-rows) → let s = start (c .before) in
     rowsIn (c .count-rows .result) ≡ rowCountOr (containersOf (s .args .grid)) (isFiled (s .args .sizes .apart) (s .args .sizes .limit)) (all-boxes s)
 count c = rw (c .before .containers .ensures) at (c .count-rows .ensures)
 
-containers-requires : tie.Need-containers-requires
-containers-requires c κs = search needs
-
 count-rows-requires : tie.Need-count-rows-requires
 count-rows-requires c κs = let s = start c in rw (c .containers .ensures) (s .pre .keyed, (s .pre .whole, (s .pre .count, s .pre .few)))
-
-enum-known-used : tie.Need-enum-known-used
-enum-known-used c = search needs
 
 enum-told : tie.Need-enum-told
 enum-told c = search needs
@@ -74,18 +68,6 @@ write-large-requires c κs = let e = c .before .before .before .before .before .
     let room = finish-room (s .args .grid) (s .args .sizes .apart) (s .args .sizes .limit) (all-boxes s) (lists s) (few s) counted (s .pre .large) (e .if1 .left) in
     (s .pre .whole, (s .pre .count, room))
 
-with-rows-requires : tie.Need-with-rows-requires
-with-rows-requires c κs = search needs
-
-same-length : tie.Need-same-length
-same-length c = search needs
-
-same-length-2 : tie.Need-same-length-2
-same-length-2 c = search needs
-
-same-length-3 : tie.Need-same-length-3
-same-length-3 c = search needs
-
 returns-3 : tie.Need-returns-3
 returns-3 c = let e = c .before .before .before .before .before .before .before .before .before .before .before .before in
     let k = e .before .before .before .before .before in
@@ -99,16 +81,16 @@ pub finish-spec : {M : Type 1} → statement M
 finish-spec =
     tie.close
     (tie.spec
-    containers-requires
+    (λ c κs. search needs)
     count-rows-requires
-    enum-known-used
+    (λ c. search needs)
     enum-told
     returns
     returns-2
     file-cells-requires
     write-large-requires
-    with-rows-requires
-    same-length
-    same-length-2
-    same-length-3
+    (λ c κs. search needs)
+    (λ c. search needs)
+    (λ c. search needs)
+    (λ c. search needs)
     returns-3)

@@ -10,12 +10,9 @@ use Rattle.mesh.proofs.cell_count.Tie as tie
 add-result : tie.Need-add-result
 add-result c = omega (arith, few-axes (c .args .ndim) (c .pre))
 
-div-result : tie.Need-div-result
-div-result c = search needs
-
 returns : tie.Need-returns
 unfolding cellCount
 returns c = refl
 
 pub cell-count-spec : {M : Type 1} → statement M
-cell-count-spec = tie.close (tie.spec add-result div-result returns)
+cell-count-spec = tie.close (tie.spec add-result (λ c. search needs) returns)

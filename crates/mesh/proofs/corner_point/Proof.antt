@@ -24,9 +24,6 @@ mul-number-2 c = let s = c .before in omega (arith, corner-in (s .args .ndim) (m
 shared-slice-read-number : tie.Need-shared-slice-read-number
 shared-slice-read-number c = let s = c .before .before in corner-in (s .args .ndim) (meshOf [] (s .args .corners .now)) (s .args .cell) (s .args .k) (s .pre .1 .0) (s .pre .1 .1)
 
-number-requires : tie.Need-number-requires
-number-requires c κs = search needs
-
 returns : tie.Need-returns
 returns c = let s = c .before .before .before in c .number .ensures ∙ sym (corner-names (s .args .ndim) (meshOf [] (s .args .corners .now)) (s .args .cell) (s .args .k) (s .pre .1 .1))
 
@@ -39,5 +36,5 @@ corner-point-spec =
     add-number-2
     mul-number-2
     shared-slice-read-number
-    number-requires
+    (λ c κs. search needs)
     returns)

@@ -19,18 +19,9 @@ returns c = rw (ne-eqb _ _ (c .if1 .taken))
 add-if2 : tie.Need-add-if2
 add-if2 c = omega (arith, few-axes (c .before .before .before .args .ndim) (c .before .before .before .pre))
 
-rem-if2 : tie.Need-rem-if2
-rem-if2 c = search needs
-
 returns-2 : tie.Need-returns-2
 unfolding brokenMesh
 returns-2 c = rw (eq-eqb _ _ (c .before .if1 .left), ne-eqb _ _ (c .if2 .taken))
-
-point-count-requires : tie.Need-point-count-requires
-point-count-requires c κs = search needs
-
-all-below-requires : tie.Need-all-below-requires
-all-below-requires c κs = search needs
 
 returns-3 : tie.Need-returns-3
 unfolding brokenMesh pointCount
@@ -43,8 +34,8 @@ is-broken-spec =
     rem-if1
     returns
     add-if2
-    rem-if2
+    (λ c. search needs)
     returns-2
-    point-count-requires
-    all-below-requires
+    (λ c κs. search needs)
+    (λ c κs. search needs)
     returns-3)

@@ -4,15 +4,9 @@ use borrow.Author.Needs.{needs}
 use Rattle.mesh.proofs.is_too_long.Statement.{statement}
 use Rattle.mesh.proofs.is_too_long.Tie as tie
 
-point-count-requires : tie.Need-point-count-requires
-point-count-requires c κs = search needs
-
-cell-count-requires : tie.Need-cell-count-requires
-cell-count-requires c κs = search needs
-
 returns : tie.Need-returns
 unfolding meshTooLong pointCount cellCount
 returns c = rw (c .before .point-count .ensures, c .cell-count .ensures)
 
 pub is-too-long-spec : {M : Type 1} → statement M
-is-too-long-spec = tie.close (tie.spec point-count-requires cell-count-requires returns)
+is-too-long-spec = tie.close (tie.spec (λ c κs. search needs) (λ c κs. search needs) returns)

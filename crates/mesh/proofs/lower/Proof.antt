@@ -7,15 +7,6 @@ use Rattle.basics.proofs.Lists.{take-zip}
 use Rattle.mesh.proofs.lower.Statement.{statement}
 use Rattle.mesh.proofs.lower.Tie as tie
 
-min-requires : tie.Need-min-requires
-min-requires c κs = search needs
-
-min-requires-2 : tie.Need-min-requires-2
-min-requires-2 c κs = search needs
-
-min-requires-3 : tie.Need-min-requires-3
-min-requires-3 c κs = search needs
-
 returns : tie.Need-returns
 unfolding zipWith
 returns c = λ n. let s = c .before .before .before .args in
@@ -23,4 +14,4 @@ returns c = λ n. let s = c .before .before .before .args in
     (take-zip minOf n (s .p .x ∷ s .p .y ∷ s .p .z ∷ []) (s .q .x ∷ s .q .y ∷ s .q .z ∷ []))
 
 pub lower-spec : {M : Type 1} → statement M
-lower-spec = tie.close (tie.spec min-requires min-requires-2 min-requires-3 returns)
+lower-spec = tie.close (tie.spec (λ c κs. search needs) (λ c κs. search needs) (λ c κs. search needs) returns)

@@ -7,15 +7,6 @@ use Rattle.basics.proofs.Lists.{take-zip}
 use Rattle.mesh.proofs.upper.Statement.{statement}
 use Rattle.mesh.proofs.upper.Tie as tie
 
-max-requires : tie.Need-max-requires
-max-requires c κs = search needs
-
-max-requires-2 : tie.Need-max-requires-2
-max-requires-2 c κs = search needs
-
-max-requires-3 : tie.Need-max-requires-3
-max-requires-3 c κs = search needs
-
 returns : tie.Need-returns
 unfolding zipWith
 returns c = λ n. let s = c .before .before .before .args in
@@ -23,4 +14,4 @@ returns c = λ n. let s = c .before .before .before .args in
     (take-zip maxOf n (s .p .x ∷ s .p .y ∷ s .p .z ∷ []) (s .q .x ∷ s .q .y ∷ s .q .z ∷ []))
 
 pub upper-spec : {M : Type 1} → statement M
-upper-spec = tie.close (tie.spec max-requires max-requires-2 max-requires-3 returns)
+upper-spec = tie.close (tie.spec (λ c κs. search needs) (λ c κs. search needs) (λ c κs. search needs) returns)

@@ -17,14 +17,8 @@ mesh s = meshOf (s .args .coords .now) (s .args .corners .now)
 abbrev lists : tie.Start → IndexLists
 lists s = indexLists (s .args .keys .now) (s .args .cells .now) (s .args .large .now)
 
-sizes-refused-requires : tie.Need-sizes-refused-requires
-sizes-refused-requires c κs = search needs
-
 returns : tie.Need-returns
 returns c = let s = start (c .before) in lists-sizes (s .args .ndim) (mesh s) (lists s) (s .args .numbers .now) (s .args .floats .now) (c .before .sizes-refused .ensures) (c .if1 .taken)
-
-have-lengths-requires : tie.Need-have-lengths-requires
-have-lengths-requires c κs = search needs
 
 returns-2 : tie.Need-returns-2
 returns-2 c = let p = c .before .before in
@@ -38,4 +32,4 @@ returns-3 c = let p = c .before .before in
 
 pub lists-refused-spec : {M : Type 1} → statement M
 lists-refused-spec =
-    tie.close (tie.spec sizes-refused-requires returns have-lengths-requires returns-2 returns-3)
+    tie.close (tie.spec (λ c κs. search needs) returns (λ c κs. search needs) returns-2 returns-3)

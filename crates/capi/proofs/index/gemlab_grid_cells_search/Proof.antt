@@ -18,23 +18,8 @@ answered : (c : tie.After-search) → let a = start c .args in leaves (c .search
     ≡ cellSearch (indexOf (a .numbers .now) (a .floats .now)) (meshOf (a .coords .now) (a .corners .now)) (indexLists (a .keys .now) (a .cells .now) (a .large .now)) (a .zeta .now) (a .x .now)
 answered c = rw (c .before .before .index-of .ensures) at (c .search .ensures)
 
-index-of-requires : tie.Need-index-of-requires
-index-of-requires c κs = search needs
-
-search-requires : tie.Need-search-requires
-search-requires c κs = search needs
-
-enum-known-answer : tie.Need-enum-known-answer
-enum-known-answer c = search needs
-
 enum-told : tie.Need-enum-told
 enum-told c = search needs
-
-enum-known-answer-2 : tie.Need-enum-known-answer-2
-enum-known-answer-2 c = search needs
-
-same-length : tie.Need-same-length
-same-length c = search needs
 
 returns : tie.Need-returns
 returns c = let k = c .before .before .before .before .before in
@@ -42,14 +27,8 @@ returns c = let k = c .before .before .before .before .before in
     let cell = c .before .answer .given in
     told-cell (k .search .result) (a .found .now) (a .cell .now) (answered k) (cell .0 .0 .0) (cell .1)
 
-same-length-2 : tie.Need-same-length-2
-same-length-2 c = search needs
-
 returns-2 : tie.Need-returns-2
 returns-2 c = let k = c .before .before .before .before in let a = start k .args in told-none (k .search .result) (a .found .now) (a .cell .now) (answered k) (c .enum-told .given .1)
-
-same-length-3 : tie.Need-same-length-3
-same-length-3 c = search needs
 
 returns-3 : tie.Need-returns-3
 returns-3 c = let k = c .before .before .before .before .before in
@@ -61,14 +40,14 @@ pub gemlab-grid-cells-search-spec : {M : Type 1} → statement M
 gemlab-grid-cells-search-spec =
     tie.close
     (tie.spec
-    index-of-requires
-    search-requires
-    enum-known-answer
+    (λ c κs. search needs)
+    (λ c κs. search needs)
+    (λ c. search needs)
     enum-told
-    enum-known-answer-2
-    same-length
+    (λ c. search needs)
+    (λ c. search needs)
     returns
-    same-length-2
+    (λ c. search needs)
     returns-2
-    same-length-3
+    (λ c. search needs)
     returns-3)

@@ -6,15 +6,6 @@ use borrow.Author.Needs.{needs}
 use Rattle.capi.proofs.index.index_of.Statement.{statement}
 use Rattle.capi.proofs.index.index_of.Tie as tie
 
-have-lengths-requires : tie.Need-have-lengths-requires
-have-lengths-requires c κs = search needs
-
-dimension-of-requires : tie.Need-dimension-of-requires
-dimension-of-requires c κs = search needs
-
-no-index-requires : tie.Need-no-index-requires
-no-index-requires c κs = search needs
-
 returns : tie.Need-returns
 returns c = let h = c .before .before .before in
     let a = h .before .before .before .args in
@@ -32,9 +23,9 @@ pub index-of-spec : {M : Type 1} → statement M
 index-of-spec =
     tie.close
     (tie.spec
-    have-lengths-requires
-    dimension-of-requires
-    no-index-requires
+    (λ c κs. search needs)
+    (λ c κs. search needs)
+    (λ c κs. search needs)
     returns
     read-index-requires
     returns-2)

@@ -8,23 +8,8 @@ use borrow.Author.Needs.{needs}
 use Rattle.grid_cells.proofs.frame.frame.Statement.{statement}
 use Rattle.grid_cells.proofs.frame.frame.Tie as tie
 
-is-nothing-filed-requires : tie.Need-is-nothing-filed-requires
-is-nothing-filed-requires c κs = search needs
-
 returns : tie.Need-returns
 returns c = λ m z e. frame-nothing z (c .before .before .pre) e _ (c .before .is-nothing-filed .ensures) (c .if1 .taken)
-
-lowered-requires : tie.Need-lowered-requires
-lowered-requires c κs = search needs
-
-raised-requires : tie.Need-raised-requires
-raised-requires c κs = search needs
-
-divide-requires : tie.Need-divide-requires
-divide-requires c κs = search needs
-
-divisions-refused-requires : tie.Need-divisions-refused-requires
-divisions-refused-requires c κs = search needs
 
 returns-2 : tie.Need-returns-2
 unfolding ofBits
@@ -55,12 +40,12 @@ pub frame-spec : {M : Type 1} → statement M
 frame-spec =
     tie.close
     (tie.spec
-    is-nothing-filed-requires
+    (λ c κs. search needs)
     returns
-    lowered-requires
-    raised-requires
-    divide-requires
-    divisions-refused-requires
+    (λ c κs. search needs)
+    (λ c κs. search needs)
+    (λ c κs. search needs)
+    (λ c κs. search needs)
     returns-2
     covered-requires
     returns-3)

@@ -18,9 +18,6 @@ mesh s = meshOf (s .args .coords .now) (s .args .corners .now)
 abbrev lists : tie.Start → IndexLists
 lists s = indexLists (s .args .keys .now) (s .args .cells .now) (s .args .large .now)
 
-sizes-refused-requires : tie.Need-sizes-refused-requires
-sizes-refused-requires c κs = search needs
-
 returns : tie.Need-returns
 returns c = let s = c .before .before .before .before .before .before .before in early-sizes (s .args .ndim) (mesh s) (s .args .settings) (lists s) (c .before .sizes-refused .ensures) (c .if1 .taken)
 
@@ -37,9 +34,6 @@ returns-3 c = let q = c .before .before in
     let p = q .before in
     let s = start p in
     early-19 (s .args .ndim) (mesh s) (s .args .settings) (lists s) (p .before .sizes-refused .ensures) (p .if1 .left) (q .if2 .left) (sym (c .before .is-broken .ensures) ∙ c .if3 .taken)
-
-settings-refused-requires : tie.Need-settings-refused-requires
-settings-refused-requires c κs = search needs
 
 returns-4 : tie.Need-returns-4
 returns-4 c = let r = c .before .before in
@@ -80,12 +74,12 @@ pub refused-spec : {M : Type 1} → statement M
 refused-spec =
     tie.close
     (tie.spec
-    sizes-refused-requires
+    (λ c κs. search needs)
     returns
     returns-2
     is-broken-requires
     returns-3
-    settings-refused-requires
+    (λ c κs. search needs)
     returns-4
     cell-count-requires
     returns-5

@@ -15,9 +15,6 @@ use Rattle.grid_cells.proofs.refusals.settings_refused.Tie as tie
 values : (c : tie.Else1) → let s = c .before .before .before in (all coordinate (s .args .coords .now) && settingsOk (s .args .t)) ≡ true
 values c = sym (c .before .are-values-ok .ensures) ∙ not-false _ (c .if1 .left)
 
-are-values-ok-requires : tie.Need-are-values-ok-requires
-are-values-ok-requires c κs = search needs
-
 returns : tie.Need-returns
 unfolding settingTests fault code ofBits
 returns c = rw (sym (c .before .are-values-ok .ensures) ∙ not-true _ (c .if1 .taken))
@@ -30,17 +27,11 @@ returns-3 : tie.Need-returns-3
 unfolding settingTests fault code ofBits
 returns-3 c = let p = c .before .before in rw (values (p .before .before), p .if2 .left, c .if3 .taken)
 
-is-no-part-requires : tie.Need-is-no-part-requires
-is-no-part-requires c κs = search needs
-
 returns-4 : tie.Need-returns-4
 unfolding settingTests fault code ofBits
 returns-4 c = let q = c .before .before in
     let p = q .before .before in
     rw (values (p .before .before), p .if2 .left, q .if3 .left, sym (c .before .is-no-part .ensures) ∙ c .if4 .taken)
-
-is-no-part-requires-2 : tie.Need-is-no-part-requires-2
-is-no-part-requires-2 c κs = search needs
 
 returns-5 : tie.Need-returns-5
 unfolding settingTests fault code ofBits
@@ -60,12 +51,12 @@ pub settings-refused-spec : {M : Type 1} → statement M
 settings-refused-spec =
     tie.close
     (tie.spec
-    are-values-ok-requires
+    (λ c κs. search needs)
     returns
     returns-2
     returns-3
-    is-no-part-requires
+    (λ c κs. search needs)
     returns-4
-    is-no-part-requires-2
+    (λ c κs. search needs)
     returns-5
     returns-6)

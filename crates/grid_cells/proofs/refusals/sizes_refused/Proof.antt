@@ -12,18 +12,12 @@ use Rattle.grid_cells.proofs.refusals.sizes_refused.Tie as tie
 axes : (c : tie.Else1) → dimension (c .before .before .before .before .before .before .before .args .ndim) ≡ true
 axes c = sym (c .before .is-dimension .ensures) ∙ not-false _ (c .if1 .left)
 
-is-dimension-requires : tie.Need-is-dimension-requires
-is-dimension-requires c κs = search needs
-
 returns : tie.Need-returns
 unfolding sizeTests fault code
 returns c = rw (sym (c .before .is-dimension .ensures) ∙ not-true _ (c .if1 .taken))
 
 is-too-long-requires : tie.Need-is-too-long-requires
 is-too-long-requires c κs = axes c
-
-is-too-long-requires-2 : tie.Need-is-too-long-requires-2
-is-too-long-requires-2 c κs = search needs
 
 returns-2 : tie.Need-returns-2
 unfolding sizeTests fault code
@@ -37,9 +31,9 @@ pub sizes-refused-spec : {M : Type 1} → statement M
 sizes-refused-spec =
     tie.close
     (tie.spec
-    is-dimension-requires
+    (λ c κs. search needs)
     returns
     is-too-long-requires
-    is-too-long-requires-2
+    (λ c κs. search needs)
     returns-2
     returns-3)
