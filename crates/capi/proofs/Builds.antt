@@ -3,14 +3,15 @@
 use Prim.Native.Nat.{ℕ}
 use native.Mathlib.Omega.{arith}
 use mathlib.Core.Path.{_≡_, refl, sym, ap, _∙_}
+use mathlib.Core.Bool.{true, false, not}
 use mathlib.Core.Option.{Option, none, some}
 use mathlib.Core.List.{List, [], _∷_, _++_}
 use lib.Dec.{eqb}
-use lib.ListN.{length, take, drop}
+use lib.ListN.{length}
 use lib.Ieee.{Float}
 use borrow.Author.Tests.{eqb-true, not-false}
 use Rattle.basics.proofs.Bools.{and-both}
-use Rattle.basics.specs.Refusals.{Test, Answer, refused, success, through, fault, code}
+use Rattle.basics.specs.Refusals.{refuse, Answer, refused, success, through, fault, code}
 use Rattle.basics.proofs.Refusals.{fault-left, fault-right, fault-stop, code-some, code-none, unrefused}
 use Rattle.mesh.specs.Mesh.{Mesh}
 use Rattle.cell_sizes.specs.declared.Settings.{Settings}
@@ -18,93 +19,93 @@ use Rattle.cell_sizes.specs.Large.{measure}
 use Rattle.grid_cells.specs.declared.GridCells.{GridCells}
 use Rattle.grid_cells.specs.declared.Built.{Built}
 use Rattle.grid_cells.specs.declared.Built.the-variants.{Index, Refused}
-use Rattle.grid_cells.specs.Build.{Lent, Build, lentTooLong, make, settle, buildTests, build, built, Gives}
-use Rattle.grid_cells.specs.Steps.{tooMany, listTests}
+use Rattle.grid_cells.specs.Build.{IndexLists, indexLists, sizeTests, laterTests, buildTests, make, Build, settleBuild, build, built, leavesLists}
+use Rattle.grid_cells.proofs.Ways.{code-stop, code-past}
+use Rattle.grid_cells.proofs.Early.{sizes-numbered}
 use Rattle.capi.specs.Answers.{number, written}
-use Rattle.capi.specs.Cells.{cellsNumbers, cellsFloats, cellsTests, cellsListTests, buildInC, ToldCells}
+use Rattle.capi.specs.Cells.{cellsNumbers, cellsFloats, cellsLengths, cellsTests, cellsListTests, buildInC, ToldCells}
 
--- ---- the tests before the call, and those of the call
+-- ---- 1, 24, and 13 by the index lists: each way through them
 
-module _ (n : ℕ) (m : Mesh) (t : Settings) (l : Lent) (numbers : List ℕ) (floats : List Float) where
-  -- 1, 24, and 13 by the index lists
-  abbrev front : List Test
-  front = cellsListTests n m (length (l .keys)) (length (l .cells)) (length (l .large)) numbers floats
+module _ (n : ℕ) (m : Mesh) (l : IndexLists) (numbers : List ℕ) (floats : List Float) {a : ℕ} (e : a ≡ code (fault (sizeTests n m l))) where
+  pub lists-sizes : (a ≡ 0 → ⊥) → a ≡ code (fault (cellsListTests n m l numbers floats))
+  unfolding cellsListTests
+  lists-sizes h = code-stop (sizeTests n m l) _ e h
 
-  in-front : cellsTests n m t l numbers floats ≡ front ++ drop 2 (buildTests n m t l)
-  unfolding cellsTests cellsListTests listTests buildTests tooMany lentTooLong
-  in-front = refl
+  module _ (z : a ≡ 0) where
+    past : {b : ℕ} → b ≡ code (fault (refuse 13 (not (cellsLengths numbers floats)) ∷ [])) → b ≡ code (fault (cellsListTests n m l numbers floats))
+    unfolding cellsListTests
+    past f = code-past (sizeTests n m l) _ (sizes-numbered n m l) e z f
 
-  -- 1 and 24
-  abbrev two : List Test
-  two = take 2 (listTests n m (length (l .keys)) (length (l .cells)) (length (l .large)))
+    pub lists-13 : cellsLengths numbers floats ≡ false → 13 ≡ code (fault (cellsListTests n m l numbers floats))
+    unfolding fault code
+    lists-13 h = past (rw h)
 
-  two-first : buildTests n m t l ≡ two ++ drop 2 (buildTests n m t l)
-  unfolding listTests buildTests tooMany lentTooLong
-  two-first = refl
+    pub lists-none : cellsLengths numbers floats ≡ true → 0 ≡ code (fault (cellsListTests n m l numbers floats))
+    unfolding fault code
+    lists-none h = past (rw h)
+
+-- ---- those, and the tests of the call
+
+module _ (n : ℕ) (m : Mesh) (t : Settings) (l : IndexLists) (numbers : List ℕ) (floats : List Float) where
+  first-are : cellsTests n m t l numbers floats ≡ cellsListTests n m l numbers floats ++ laterTests n m t l
+  unfolding cellsTests cellsListTests sizeTests
+  first-are = refl
 
   -- where none of them fails, the first test of the build that fails is that of the call
-  same-fault : fault front ≡ none → fault (buildTests n m t l) ≡ fault (cellsTests n m t l numbers floats)
-  unfolding cellsListTests
+  same-fault : fault (cellsListTests n m l numbers floats) ≡ none → fault (buildTests n m t l) ≡ fault (cellsTests n m t l numbers floats)
+  unfolding cellsListTests buildTests
   same-fault e =
-      ap fault two-first
-      ∙ fault-right two (drop 2 (buildTests n m t l)) (fault-left two (_ ∷ []) e)
-      ∙ sym (ap fault in-front ∙ fault-right front (drop 2 (buildTests n m t l)) e)
+      fault-right (sizeTests n m l) (laterTests n m t l) (fault-left (sizeTests n m l) (_ ∷ []) e)
+      ∙ sym (ap fault first-are ∙ fault-right (cellsListTests n m l numbers floats) (laterTests n m t l) e)
 
-  same-build : fault front ≡ none → build n m t l ≡ buildInC n m t l numbers floats
+  same-build : fault (cellsListTests n m l numbers floats) ≡ none → build n m t l ≡ buildInC n m t l numbers floats
   unfolding build buildInC
-  same-build e = ap (λ (o : Option ℕ). settle o (make n (measure n m t) t) l) (same-fault e)
+  same-build e = ap (λ (o : Option ℕ). settleBuild o (make n (measure n m t) t) l) (same-fault e)
 
-  -- no test before the call fails
-  pub passed-front : {first : ℕ} → first ≡ code (fault front) → first ≡ 0 → fault front ≡ none
-  unfolding cellsListTests listTests
-  passed-front e z = code-none front ((λ h. omega arith), ((λ h. omega arith), ((λ h. omega arith), tt))) (sym z ∙ e)
+  module _ {a : ℕ} (e : a ≡ code (fault (cellsListTests n m l numbers floats))) where
+    -- turned away before the call
+    pub told-first : (a ≡ 0 → ⊥) → ToldCells (buildInC n m t l numbers floats) a l numbers numbers floats floats
+    unfolding buildInC settleBuild
+    told-first h =
+        rw (ap fault first-are ∙ fault-stop (cellsListTests n m l numbers floats) (laterTests n m t l) a (code-some (fault (cellsListTests n m l numbers floats)) a e h))
+        (record { returned = refl; lists-are = refl; numbers-written = refl; floats-written = refl })
 
-  -- so the index lists have their lengths
-  pub lengths-of : fault front ≡ none → (length numbers ≡ 6) × (length floats ≡ 7)
-  unfolding cellsListTests listTests
-  lengths-of e =
-      let l = and-both (eqb (length numbers) 6) (eqb (length floats) 7) (not-false _ (unrefused front e .1 .1 .0)) in
-      (eqb-true (length numbers) 6 (l .0), eqb-true (length floats) 7 (l .1))
+    -- no test before the call fails
+    module _ (z : a ≡ 0) where
+      passed : fault (cellsListTests n m l numbers floats) ≡ none
+      unfolding cellsListTests sizeTests
+      passed = code-none (cellsListTests n m l numbers floats) (λ h. omega arith, (λ h. omega arith, (λ h. omega arith, tt))) (sym z ∙ e)
 
-  -- turned away before the call
-  pub told-front : (r : ℕ) → r ≡ code (fault front) → (r ≡ 0 → ⊥) → ToldCells (buildInC n m t l numbers floats) r (l .keys) (l .cells) (l .large) numbers numbers floats floats
-  unfolding buildInC settle
-  told-front r e h =
-      rw (ap fault in-front ∙ fault-stop front (drop 2 (buildTests n m t l)) r (code-some (fault front) r e h))
-      (record { returned = refl; keys-are = refl; cells-are = refl; large-are = refl; numbers-written = refl; floats-written = refl })
+      -- so the index lists have their lengths
+      pub lengths-of : (length numbers ≡ 6) × (length floats ≡ 7)
+      unfolding cellsListTests sizeTests
+      lengths-of =
+          let l = and-both (eqb (length numbers) 6) (eqb (length floats) 7) (not-false _ (unrefused (cellsListTests n m l numbers floats) passed .1 .1 .0)) in
+          (eqb-true (length numbers) 6 (l .0), eqb-true (length floats) 7 (l .1))
 
-  -- the call: no test before it fails
-  module _ (e : fault front ≡ none) {r : Built} {keys cells large : List ℕ} (g : Gives (build n m t l) r keys cells large) where
-    same : build n m t l ≡ buildInC n m t l numbers floats
-    same = same-build e
+      -- what the call leaves
+      module _ (r : Built) {keys cells large : List ℕ} (g : leavesLists r keys cells large ≡ build n m t l) where
+        left : leavesLists r keys cells large ≡ buildInC n m t l numbers floats
+        left = g ∙ same-build passed
 
-    answered : built r ≡ buildInC n m t l numbers floats .answer
-    answered = g .answer ∙ ap (λ (b : Build). b .answer) same
+        pub told-index : {grid : GridCells} → r ≡ Index grid → {numbers′ : List ℕ} {floats′ : List Float} → numbers′ ≡ cellsNumbers grid → floats′ ≡ cellsFloats grid
+            → ToldCells (buildInC n m t l numbers floats) 0 (indexLists keys cells large) numbers numbers′ floats floats′
+        told-index {grid} f p q =
+            let a : success grid ≡ buildInC n m t l numbers floats .answer = sym (ap built f) ∙ ap (λ (b : Build). b .answer) left in
+            record {
+              returned = ap number a;
+              lists-are = ap (λ (b : Build). b .lists) left;
+              numbers-written = p ∙ ap (λ (x : Answer GridCells). written (through cellsNumbers x) numbers) a;
+              floats-written = q ∙ ap (λ (x : Answer GridCells). written (through cellsFloats x) floats) a;
+            }
 
-    left : record { keys = keys; cells = cells; large = large } ≡ buildInC n m t l numbers floats .lent
-    left = g .lists ∙ ap (λ (b : Build). b .lent) same
-
-    module _ {new : List ℕ} {new' : List Float} where
-      pub told-index : (grid : GridCells) → r ≡ Index grid → new ≡ cellsNumbers grid → new' ≡ cellsFloats grid → ToldCells (buildInC n m t l numbers floats) 0 keys cells large numbers new floats new'
-      told-index grid f p q =
-          let a : success grid ≡ buildInC n m t l numbers floats .answer = sym (ap built f) ∙ answered in
-          record {
-            returned = ap number a;
-            keys-are = ap (λ (x : Lent). x .keys) left;
-            cells-are = ap (λ (x : Lent). x .cells) left;
-            large-are = ap (λ (x : Lent). x .large) left;
-            numbers-written = p ∙ ap (λ (x : Answer GridCells). written (through cellsNumbers x) numbers) a;
-            floats-written = q ∙ ap (λ (x : Answer GridCells). written (through cellsFloats x) floats) a;
-          }
-
-    pub told-refused : (k : ℕ) → r ≡ Refused k → ToldCells (buildInC n m t l numbers floats) k keys cells large numbers numbers floats floats
-    told-refused k f =
-        let a : refused k ≡ buildInC n m t l numbers floats .answer = sym (ap built f) ∙ answered in
-        record {
-          returned = ap number a;
-          keys-are = ap (λ (x : Lent). x .keys) left;
-          cells-are = ap (λ (x : Lent). x .cells) left;
-          large-are = ap (λ (x : Lent). x .large) left;
-          numbers-written = ap (λ (x : Answer GridCells). written (through cellsNumbers x) numbers) a;
-          floats-written = ap (λ (x : Answer GridCells). written (through cellsFloats x) floats) a;
-        }
+        pub told-refused : {k : ℕ} → r ≡ Refused k → ToldCells (buildInC n m t l numbers floats) k (indexLists keys cells large) numbers numbers floats floats
+        told-refused {k} f =
+            let a : refused k ≡ buildInC n m t l numbers floats .answer = sym (ap built f) ∙ ap (λ (b : Build). b .answer) left in
+            record {
+              returned = ap number a;
+              lists-are = ap (λ (b : Build). b .lists) left;
+              numbers-written = ap (λ (x : Answer GridCells). written (through cellsNumbers x) numbers) a;
+              floats-written = ap (λ (x : Answer GridCells). written (through cellsFloats x) floats) a;
+            }

@@ -3,19 +3,21 @@
 use Prim.Native.Nat.{ℕ}
 use native.Mathlib.Omega.{arith}
 use mathlib.Core.Path.{_≡_, refl, sym, ap, _∙_}
-use mathlib.Core.Bool.{false, and-false}
+use mathlib.Core.Bool.{true, false}
 use mathlib.Core.List.{List, [], _∷_}
 use lib.ListN.{length, getD}
 use lib.Ieee.{Float, le}
-use borrow.Author.Tests.{eq-eqb, ne-eqb}
-use Rattle.mesh.specs.Mesh.{Mesh}
+use lib.Dec.{eqb}
+use borrow.Author.Tests.{eqb-true}
+use Rattle.basics.proofs.Bools.{and-both}
 use Rattle.grid_cells.specs.declared.GridCells.{GridCells}
-use Rattle.grid_cells.specs.Build.{Lent}
+use Rattle.grid_cells.specs.Build.{IndexLists}
 use Rattle.cell_search.specs.declared.FoundCell.{FoundCell}
 use Rattle.cell_search.specs.declared.FoundCell.the-variants.{Cell, Nothing, Refused}
-use Rattle.cell_search.specs.Search.{goodIndex, soundIndex, CellSearch, foundCell, leaves}
+use Rattle.cell_index.specs.Index.{goodIndex, soundIndex}
+use Rattle.cell_search.specs.Search.{CellSearch, foundCell, leaves}
 use Rattle.capi.specs.Cells.{cellsNumbers, cellsFloats, cellsLengths}
-use Rattle.capi.specs.Indexes.{readIndex, noIndex, indexOf, ToldCell}
+use Rattle.capi.specs.Indexes.{readIndex, indexOf, ToldCell}
 use Rattle.capi.proofs.Libraries.{told-id, told-nothing, told-away}
 
 -- ---- reading
@@ -25,23 +27,21 @@ no-first [] e = refl
 no-first (n ∷ l) e = absurd (omega arith)
 
 module _ (numbers : List ℕ) (floats : List Float) where
-  module _ {n : ℕ} {g : GridCells} (e : n ≡ getD numbers 0 0) (f : g ≡ noIndex n) where
-    pub other-numbers : (length numbers ≡ 6 → ⊥) → g ≡ indexOf numbers floats
-    unfolding indexOf
-    other-numbers h = f ∙ rw (ne-eqb _ _ h, e)
-
-    pub other-floats : (length floats ≡ 7 → ⊥) → g ≡ indexOf numbers floats
-    unfolding indexOf
-    other-floats h = f ∙ rw (ne-eqb _ _ h, and-false, e)
-
-  pub both-lists : length numbers ≡ 6 → length floats ≡ 7 → readIndex numbers floats ≡ indexOf numbers floats
+  pub other-lists : {n : ℕ} {g : GridCells} → n ≡ getD numbers 0 0 → g ≡ readIndex (n ∷ []) [] → cellsLengths numbers floats ≡ false → g ≡ indexOf numbers floats
   unfolding indexOf
-  both-lists h k = rw (eq-eqb _ _ h, eq-eqb _ _ k)
+  other-lists e f h = f ∙ rw (h, e)
+
+  pub both-lists : cellsLengths numbers floats ≡ true → readIndex numbers floats ≡ indexOf numbers floats
+  unfolding indexOf
+  both-lists h = rw h
+
+  pub both-lengths : cellsLengths numbers floats ≡ true → (length numbers ≡ 6) × (length floats ≡ 7)
+  both-lengths h = let l = and-both (eqb (length numbers) 6) (eqb (length floats) 7) h in (eqb-true (length numbers) 6 (l .0), eqb-true (length floats) 7 (l .1))
 
   -- 13
-  pub other-lengths : cellsLengths numbers floats ≡ false → (m : Mesh) (l : Lent) → soundIndex (indexOf numbers floats) m l ≡ false
-  unfolding indexOf soundIndex goodIndex le
-  other-lengths e m l = rw e
+  pub other-lengths : cellsLengths numbers floats ≡ false → (n : ℕ) (l : IndexLists) → soundIndex (indexOf numbers floats) n l ≡ false
+  unfolding indexOf readIndex soundIndex goodIndex le
+  other-lengths e n l = rw e
 
 pub read-back : (g : GridCells) → indexOf (cellsNumbers g) (cellsFloats g) ≡ g
 unfolding indexOf readIndex

@@ -3,13 +3,12 @@
 use Prim.Native.Nat.{ℕ}
 use mathlib.Core.Path.{_≡_}
 use mathlib.Core.Bool.{cond}
-use mathlib.Core.List.{List}
+use mathlib.Core.List.{List, [], _∷_}
 use lib.ListN.{getD}
 use lib.Ieee.{Float, nan}
-use Rattle.floats.specs.Rounded.{zeroF}
 use Rattle.grid_cells.specs.declared.GridCells.{GridCells}
 use Rattle.cell_search.specs.Search.{CellSearch}
-use Rattle.capi.specs.Sheets.{positionAt, origin}
+use Rattle.capi.specs.Sheets.{positionAt}
 use Rattle.capi.specs.Libraries.{ToldFound}
 use Rattle.capi.specs.Cells.{cellsLengths}
 
@@ -25,14 +24,10 @@ readIndex numbers floats = record {
   large = getD numbers 5 0;
 }
 
--- what stands for lists of another length: an index of that dimension whose side is 0. 1, 24 and 19 are judged on it, and 13 turns it away.
-abbrev pub noIndex : ℕ → GridCells
-noIndex n = record { ndim = n; ndiv = record { x = 0; y = 0; z = 0 }; «side_length» = zeroF; xmin = origin; xmax = origin; used = 0; large = 0 }
-
--- the dimension is the first of the numbers, and 0 where there is none
+-- For lists of another length stands what lists hold that have the dimension alone, the first of the numbers or 0: 1, 24 and 19 are judged on it, and 13 turns it away.
 unfoldable pub indexOf : List ℕ → List Float → GridCells
 unfolding readIndex
-indexOf numbers floats = cond (cellsLengths numbers floats) (readIndex numbers floats) (noIndex (getD numbers 0 0))
+indexOf numbers floats = cond (cellsLengths numbers floats) (readIndex numbers floats) (readIndex (getD numbers 0 0 ∷ []) [])
 
 -- the number, whether a cell is found, its number, and the coordinate list at exit
 pub record ToldCell (s : CellSearch) (r : ℕ) (zeta′ : List Float) (found found′ cell cell′ : ℕ) : Type 0 where

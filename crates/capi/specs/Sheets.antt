@@ -94,9 +94,6 @@ pub record ToldSheet (x : Answer GridSearch) (r : ℕ) (numbers numbers' : List 
 
 -- ---- how a sheet is read
 
-abbrev pub origin : Position
-origin = record { x = zeroF; y = zeroF; z = zeroF }
-
 -- a flag is 0 or 1, and with 0 the entry is 0
 abbrev pub numberRead : ℕ → ℕ → Bool
 numberRead flag n = eqb flag 1 || (eqb flag 0 && eqb n 0)

@@ -3,44 +3,43 @@ ghost use mathlib.Core.Path.{_≡_};
 ghost use lib.ListN.{length};
 ghost use Rattle.basics.specs.Refusals.{fault, code};
 ghost use Rattle.mesh.specs.Mesh.{meshOf};
-ghost use Rattle.grid_cells.specs.Build.{settingsOf, lentOf};
+ghost use Rattle.grid_cells.specs.Build.{settingsOf, indexLists};
 ghost use Rattle.capi.specs.Sheets.{givenFloat};
-ghost use Rattle.capi.specs.Cells.{cellsNumbers, cellsFloats, cellsListTests, buildInC, ToldCells};
+ghost use Rattle.capi.specs.Cells.{cellsNumbers, cellsFloats, cellsLengths, cellsListTests, buildInC, ToldCells};
 use crate::sheet::given_float;
 use grid_cells::Built;
 use grid_cells::GridCells;
 
 // How many entries an index's lists have.
-pub(crate) const NUMBERS: usize = 6;
+const NUMBERS: usize = 6;
 
-pub(crate) const FLOATS: usize = 7;
+const FLOATS: usize = 7;
+
+// Whether an index's lists have their lengths.
+pub(crate) fn have_lengths(numbers: &[u64], floats: &[f64]) -> bool
+    ensures { λ r. ⌜ r ≡ cellsLengths (now (numbers .entry)) (now (floats .entry)) ⌝ }
+{
+    (numbers.len() == NUMBERS) & (floats.len() == FLOATS)
+}
 
 // 1, 24, or 13 for an index list of another length; or 0.
 fn lists_refused(
     ndim: usize,
     coords: &[f64],
     corners: &[u32],
-    keys: usize,
-    cells: usize,
-    large: usize,
+    keys: &[u64],
+    cells: &[u64],
+    large: &[u64],
     numbers: &[u64],
     floats: &[f64],
 ) -> u64
-    ensures { λ r. ⌜ r ≡ code (fault (cellsListTests ndim (meshOf (now (coords .entry)) (now (corners .entry))) keys cells large (now (numbers .entry)) (now (floats .entry)))) ⌝ }
+    ensures { λ r. ⌜ r ≡ code (fault (cellsListTests ndim (meshOf (now (coords .entry)) (now (corners .entry))) (indexLists (now (keys .entry)) (now (cells .entry)) (now (large .entry))) (now (numbers .entry)) (now (floats .entry)))) ⌝ }
 {
-    if !geometry::is_dimension(ndim) {
-        return 1;
+    let sizes = grid_cells::refusals::sizes_refused(ndim, coords, corners, keys, cells, large);
+    if sizes != 0 {
+        return sizes;
     }
-    if mesh::is_too_long(ndim, coords, corners) {
-        return 24;
-    }
-    if grid_cells::refusals::is_too_long(keys, cells, large) {
-        return 24;
-    }
-    if numbers.len() != NUMBERS {
-        return 13;
-    }
-    if floats.len() != FLOATS {
+    if !have_lengths(numbers, floats) {
         return 13;
     }
     0
@@ -94,20 +93,11 @@ pub extern "C" fn gemlab_grid_cells_new(
 ) -> u64
     ensures { λ r. ⌜ ToldCells (buildInC ndim (meshOf (now (coords .entry)) (now (corners .entry)))
         (settingsOf (givenFloat «tolerance_given» tolerance) (givenFloat «border_tol_given» «border_tol») (givenFloat «large_cutoff_given» «large_cutoff») (givenFloat «large_pct_given» «large_pct»))
-        (lentOf (now (keys .entry)) (now (cells .entry)) (now (large .entry))) (now (numbers .entry)) (now (floats .entry)))
-        r (now (keys .exit)) (now (cells .exit)) (now (large .exit)) (now (numbers .entry)) (now (numbers .exit)) (now (floats .entry)) (now (floats .exit)) ⌝ }
+        (indexLists (now (keys .entry)) (now (cells .entry)) (now (large .entry))) (now (numbers .entry)) (now (floats .entry)))
+        r (indexLists (now (keys .exit)) (now (cells .exit)) (now (large .exit))) (now (numbers .entry)) (now (numbers .exit)) (now (floats .entry)) (now (floats .exit)) ⌝ }
 {
     let ndim = ndim as usize;
-    let refused = lists_refused(
-        ndim,
-        coords,
-        corners,
-        keys.len(),
-        cells.len(),
-        large.len(),
-        numbers,
-        floats,
-    );
+    let refused = lists_refused(ndim, coords, corners, keys, cells, large, numbers, floats);
     if refused != 0 {
         return refused;
     }

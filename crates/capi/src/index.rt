@@ -1,12 +1,12 @@
 // A cell index that is handed in, and the search of it.
 ghost use mathlib.Core.Path.{_≡_};
+ghost use mathlib.Core.List.{[], _∷_};
 ghost use lib.ListN.{length, getD};
 ghost use Rattle.mesh.specs.Mesh.{meshOf};
-ghost use Rattle.grid_cells.specs.Build.{lentOf};
+ghost use Rattle.grid_cells.specs.Build.{indexLists};
 ghost use Rattle.cell_search.specs.Search.{cellSearch};
-ghost use Rattle.capi.specs.Indexes.{readIndex, noIndex, indexOf, ToldCell};
-use crate::cells::FLOATS;
-use crate::cells::NUMBERS;
+ghost use Rattle.capi.specs.Indexes.{readIndex, indexOf, ToldCell};
+use crate::cells::have_lengths;
 use crate::sheet::position_at;
 use cell_search::FoundCell;
 use geometry::Position;
@@ -36,21 +36,22 @@ fn read_index(numbers: &[u64], floats: &[f64]) -> GridCells
     }
 }
 
-// What stands for lists of another length: an index of that dimension whose side is 0, which no search takes for good.
+// What stands for lists of another length: an index of that dimension whose side is no number, which no search takes for good.
 fn no_index(ndim: usize) -> GridCells
-    ensures { λ r. ⌜ r ≡ noIndex ndim ⌝ }
+    ensures { λ r. ⌜ r ≡ readIndex (ndim ∷ []) [] ⌝ }
 {
-    let origin = Position {
-        x: 0.0,
-        y: 0.0,
-        z: 0.0,
+    let nan = 0.0 / 0.0;
+    let nowhere = Position {
+        x: nan,
+        y: nan,
+        z: nan,
     };
     GridCells {
         ndim,
         ndiv: Divisions { x: 0, y: 0, z: 0 },
-        side_length: 0.0,
-        xmin: origin,
-        xmax: origin,
+        side_length: nan,
+        xmin: nowhere,
+        xmax: nowhere,
         used: 0,
         large: 0,
     }
@@ -70,10 +71,7 @@ fn dimension_of(numbers: &[u64]) -> usize
 fn index_of(numbers: &[u64], floats: &[f64]) -> GridCells
     ensures { λ r. ⌜ r ≡ indexOf (now (numbers .entry)) (now (floats .entry)) ⌝ }
 {
-    if numbers.len() != NUMBERS {
-        return no_index(dimension_of(numbers));
-    }
-    if floats.len() != FLOATS {
+    if !have_lengths(numbers, floats) {
         return no_index(dimension_of(numbers));
     }
     read_index(numbers, floats)
@@ -96,7 +94,7 @@ pub extern "C" fn gemlab_grid_cells_search(
     cell: &mut u64,
 ) -> u64
     ensures { λ r. ⌜ ToldCell (cellSearch (indexOf (now (numbers .entry)) (now (floats .entry))) (meshOf (now (coords .entry)) (now (corners .entry)))
-        (lentOf (now (keys .entry)) (now (cells .entry)) (now (large .entry))) (now (zeta .entry)) (now (x .entry)))
+        (indexLists (now (keys .entry)) (now (cells .entry)) (now (large .entry))) (now (zeta .entry)) (now (x .entry)))
         r (now (zeta .exit)) (now (found .entry)) (now (found .exit)) (now (cell .entry)) (now (cell .exit)) ⌝ }
 {
     let grid = index_of(numbers, floats);

@@ -12,7 +12,7 @@ use lib.Dec.{lit≤}
 use lib.ListN.{length, getD}
 use lib.Ieee.{Float, nan, binary64, le, isNan, fits}
 use Rattle.basics.proofs.Bools.{by-test, both, and-left, and-both}
-use Rattle.basics.specs.Lists.{all, keep, zipWith, tab, foldFrom}
+use Rattle.basics.specs.Lists.{all, keep, zipWith, tab, foldFrom, foldAll}
 use Rattle.basics.proofs.Lists.{length-tab, all-at, all-tab}
 use Rattle.floats.specs.Rounded.{zeroF, pow2}
 use Rattle.floats.specs.Tests.{finite, minOf, maxOf}
@@ -23,10 +23,10 @@ use Rattle.geometry.specs.Position.{coordinate}
 use Rattle.geometry.specs.Distances.{from}
 use Rattle.grid_search.specs.Sheet.{largest}
 use Rattle.grid_search.proofs.Sizes.{finite-number}
-use Rattle.mesh.specs.Mesh.{Mesh, Box, Whole, cellCount, pointCount, pointAt, cornerPoints, foldPoints, least, greatest, boxOf, longestSide}
+use Rattle.mesh.specs.Mesh.{Mesh, Box, Whole, cellCount, pointCount, pointAt, cornerPoints, least, greatest, boxOf, longestSide}
 use Rattle.mesh.proofs.Whole.{corner-in, names-point, point-in, length-point, corners-tab}
 use Rattle.cell_sizes.specs.Large.{boxes, longestOf}
-use Rattle.cell_search.specs.Search.{ordered}
+use Rattle.cell_index.specs.Index.{ordered}
 use Rattle.cell_claims.proofs.Bounds.{less-from-zero}
 
 -- something holds of each entry
@@ -83,8 +83,8 @@ module _ (f : Float → Float → Float) (choice : (a b : Float) → plain a ≡
       each (a ∷ x) [] h k = refl
       each (a ∷ x) (b ∷ y) h k = let p = and-both (plain a) (all plain x) h in let q = and-both (plain b) (all plain y) k in both (choice a b (p .0) (q .0)) (each x y (p .1) (q .1))
 
-  pub fold-point : (n : ℕ) (p : List Float) (ps : List (List Float)) → Point n p → Each (Point n) ps → Point n (foldPoints f p ps)
-  unfolding foldPoints
+  pub fold-point : (n : ℕ) (p : List Float) (ps : List (List Float)) → Point n p → Each (Point n) ps → Point n (foldFrom (zipWith f) p ps)
+  unfolding foldFrom
   fold-point n p [] h k = h
   fold-point n p (q ∷ ps) h k = fold-point n (zipWith f p q) ps (zip-point n p q h (k .0)) (k .1)
 
@@ -122,8 +122,8 @@ ordered-zip (a ∷ x) (b ∷ y) (c ∷ q) h k l o =
     both (le-join (minOf a c) a (maxOf b c) (min-left a c (number a (p .0)) nc) (le-join a b (maxOf b c) (t .0) (max-left b c (number b (r .0)) nc)))
     (ordered-zip x y q (p .1) (r .1) (s .1) (t .1))
 
-ordered-fold : (n : ℕ) (x y : List Float) (ps : List (List Float)) → Point n x → Point n y → Each (Point n) ps → ordered x y ≡ true → ordered (foldPoints minOf x ps) (foldPoints maxOf y ps) ≡ true
-unfolding foldPoints
+ordered-fold : (n : ℕ) (x y : List Float) (ps : List (List Float)) → Point n x → Point n y → Each (Point n) ps → ordered x y ≡ true → ordered (foldFrom (zipWith minOf) x ps) (foldFrom (zipWith maxOf) y ps) ≡ true
+unfolding foldFrom
 ordered-fold n x y [] h k l o = o
 ordered-fold n x y (q ∷ ps) h k l o =
     ordered-fold n (zipWith minOf x q) (zipWith maxOf y q) ps (zip-point minOf min-plain n x q h (l .0)) (zip-point maxOf max-plain n y q k (l .0)) (l .1) (ordered-zip x y q (h .plain) (k .plain) (l .0 .plain) o)
@@ -139,12 +139,12 @@ good-around n [] h k = absurd (omega arith)
 good-around n (p ∷ ps) h k = record { low = least-point n p ps (h .0) (h .1); high = greatest-point n p ps (h .0) (h .1); order = ordered-fold n p p ps (h .0) (h .0) (h .1) (ordered-self p (h .0 .plain)) }
 
 -- ---- those of a mesh
-module _ (n : ℕ) (m : Mesh) (w : Whole n m) (h : all plain (m .coords) ≡ true) where
+module _ (n : ℕ) (m : Mesh) (w : Whole n m) (h : all plain (m .points) ≡ true) where
   point-good : (p : ℕ) → p < pointCount n m → Point n (pointAt n m p)
   unfolding pointAt
   point-good p k = record {
     long = length-point n m p;
-    plain = all-tab plain n (λ (i : ℕ). getD (m .coords) (p * n + i) nan) (λ i l. all-at plain (m .coords) (p * n + i) nan (lt-of-lt-of-le (omega arith) (point-in n m w p k)) h);
+    plain = all-tab plain n (λ (i : ℕ). getD (m .points) (p * n + i) nan) (λ i l. all-at plain (m .points) (p * n + i) nan (lt-of-lt-of-le (omega arith) (point-in n m w p k)) h);
   }
 
   box-good : (c : ℕ) → c < cellCount n m → Good n (boxOf n m c)
@@ -153,7 +153,7 @@ module _ (n : ℕ) (m : Mesh) (w : Whole n m) (h : all plain (m .coords) ≡ tru
       good-around n (cornerPoints n m c)
       (subst (Each (Point n)) (sym (corners-tab n m c))
       (each-tab (Point n) (n + 1) (λ (i : ℕ). pointAt n m (getD (m .corners) (c * (n + 1) + i) 0))
-      (λ i l. point-good (getD (m .corners) (c * (n + 1) + i) 0) (names-point n m w (c * (n + 1) + i) (corner-in n m w c i k (omega arith))))))
+      (λ i l. point-good (getD (m .corners) (c * (n + 1) + i) 0) (names-point n m w (c * (n + 1) + i) (corner-in n m c i k (omega arith))))))
       (rw (corners-tab n m c, length-tab) (omega arith))
 
   pub boxes-good : Each (Good n) (boxes n m)

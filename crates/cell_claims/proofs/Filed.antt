@@ -20,7 +20,7 @@ use Rattle.table.specs.Rows.{Slot, slotted, before, same, chain, sorted, slotAt
 use Rattle.table.proofs.Order.{before-total}
 use Rattle.cell_sizes.specs.Large.{numbered}
 use Rattle.cell_rows.specs.declared.Containers.{Containers}
-use Rattle.cell_rows.specs.Filing.{cellKey, overshoots, boxCorner, boxCorners, enterSlot, fileCell, fileCells, overshootsBox}
+use Rattle.cell_rows.specs.Filing.{cellKey, cellExceeds, boxCorner, boxCorners, enterSlot, fileCell, fileCells, boxExceeds}
 use Rattle.sorting.specs.Ascent.{ascending}
 use Rattle.cell_claims.proofs.Boxes.{Each, Good}
 
@@ -100,20 +100,20 @@ each-tab-with P Q zero f g h = tt
 each-tab-with P Q (suc n) f g h = (g 0 (h .0), each-tab-with P Q n (λ i. f (suc i)) (λ i. g (suc i)) (h .1))
 
 pub corner-keys : (w : Containers) (b : Box) → Good (w .ndim) b → length (counts (w .ndim) (w .ndiv)) ≡ w .ndim → length (coords (w .ndim) (w .xmin)) ≡ w .ndim
-    → all division (counts (w .ndim) (w .ndiv)) ≡ true → overshootsBox w b ≡ false
+    → all division (counts (w .ndim) (w .ndiv)) ≡ true → boxExceeds w b ≡ false
     → Each (λ (x : List Float). ltb (cellKey w x) (containers (counts (w .ndim) (w .ndiv))) ≡ true) (boxCorners b)
-unfolding overshootsBox boxCorners cellKey overshoots ratios
+unfolding boxExceeds boxCorners cellKey cellExceeds ratios
 corner-keys w b g cl xl d o =
     let n = w .ndim in
     let ns = counts n (w .ndiv) in
     let xmin = coords n (w .xmin) in
-    each-tab-with (λ (x : List Float). overshoots w x ≡ false) (λ (x : List Float). ltb (cellKey w x) (containers ns) ≡ true) (2 ^ length (b .low)) (boxCorner (b .low) (b .high))
+    each-tab-with (λ (x : List Float). cellExceeds w x ≡ false) (λ (x : List Float). ltb (cellKey w x) (containers ns) ≡ true) (2 ^ length (b .low)) (boxCorner (b .low) (b .high))
     (λ i h.
     let x = boxCorner (b .low) (b .high) i in
     let e : length x ≡ n = corner-length (b .low) (b .high) i (g .high .long ∙ sym (g .low .long)) ∙ g .low .long in
     lt-ltb (cellKey w x) (containers ns)
     (key-below ns (w .«side_length») xmin x (zip-length _ x xmin (e ∙ sym xl) ∙ e ∙ sym cl) d h))
-    (any-none (overshoots w) (boxCorners b) o)
+    (any-none (cellExceeds w) (boxCorners b) o)
 
 -- ---- the large cells
 abbrev Up : ℕ → List ℕ → Type 0

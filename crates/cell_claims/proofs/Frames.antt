@@ -23,13 +23,13 @@ use Rattle.geometry.specs.Position.{coords, positionOf, dimension, coordinate}
 use Rattle.geometry.proofs.Axes.{coords-of, entries-of}
 use Rattle.grid.specs.Divisions.{counts, division, divisionsOf}
 use Rattle.grid.proofs.Bounds.{first-of, rest-of}
-use Rattle.grid_search.specs.Sheet.{lowered, raised, coveredOf}
+use Rattle.grid_search.specs.Sheet.{lowered, raised, coveredOf, pastLimits}
 use Rattle.grid_search.proofs.Sizes.{AllUpto, coordinates-sized, lowered-sized, raised-sized, above-zero}
 use Rattle.grid_search.proofs.Laws.{lowered-length, raised-length}
 use Rattle.cell_sizes.specs.declared.Settings.{Settings}
 use Rattle.grid_cells.specs.declared.GridCells.{GridCells}
-use Rattle.grid_cells.specs.Build.{finiteSettings, pastLimits, settingsOk, cellDivisions}
-use Rattle.cell_search.specs.Search.{cornerLimit, ordered, goodIndex}
+use Rattle.grid_cells.specs.Build.{settingsOk, cellDivisions}
+use Rattle.cell_index.specs.Index.{cornerLimit, ordered, goodIndex}
 use Rattle.cell_claims.proofs.Bounds.{no-minus, twice-least, sum-least, covered-bounded}
 use Rattle.cell_claims.proofs.Grown.{grown}
 use Rattle.cell_claims.proofs.Boxes.{plain, Point, Size}
@@ -41,15 +41,14 @@ pub record Limits (t : Settings) : Type 0 where
   pub border : Upto 1024 (t .«border_tol»)
 
 pub limits : (t : Settings) → settingsOk t ≡ true → le (t .tolerance) zeroF ≡ false → lt (t .«border_tol») zeroF ≡ false → Limits t
-unfolding settingsOk finiteSettings pastLimits le
+unfolding settingsOk all pastLimits le
 limits t h z b =
     let ft = finite (t .tolerance) in
     let fb = finite (t .«border_tol») in
-    let fc = finite (t .«large_cutoff») in
-    let fp = finite (t .«large_pct») in
-    let a = and-both (ft && (fb && (fc && fp))) (not (pastLimits t)) h in
-    let f = and-both ft (fb && (fc && fp)) (a .0) in
-    let g = and-left fb (fc && fp) (f .1) in
+    let others = all finite (t .«large_cutoff» ∷ t .«large_pct» ∷ []) in
+    let a = and-both (ft && (fb && others)) (not (pastLimits (t .tolerance) (t .«border_tol»))) h in
+    let f = and-both ft (fb && others) (a .0) in
+    let g = and-left fb others (f .1) in
     let x = lt (pow2 10) (t .tolerance) in
     let y = lt (pow2 10) (t .«border_tol») in
     let s = lt (t .tolerance) (pow2⁻ 20) in

@@ -4,4 +4,5 @@ pub mod Grown
 pub mod Boxes
 pub mod Filed
 pub mod Frames
+pub mod Accepted
 pub mod Theorems

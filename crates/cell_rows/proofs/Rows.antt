@@ -21,7 +21,7 @@ use Rattle.sorting.proofs.Orders.{length-sorted}
 use Rattle.mesh.specs.Mesh.{Box}
 use Rattle.cell_rows.specs.declared.Containers.{Containers}
 use Rattle.cell_rows.specs.Filing.{cellKey, boxCorners, enterSlot, fileCell, fileCells}
-use Rattle.cell_rows.specs.Steps.{joinOnce, once, boxKeys, filedKeys, pack, keyIn, cellIn, packedRows}
+use Rattle.cell_rows.specs.Steps.{joinOnce, once, boxKeys, filedKeys, pack, packedKey, packedCell, packedRows}
 use Rattle.cell_rows.proofs.Entered.{entered, enter-there, ascending-entered, entered-append, entered-has, entered-none, hit-other}
 
 -- ---- slots as numbers
@@ -140,20 +140,20 @@ once-few (k ∷ ks) seen h v = once-few ks (joinOnce k seen) (join-few k seen h)
 -- ---- rows of several cells
 
 -- rows of a cell: of no other cell, and of a key as often as the key comes
-count-other : (c v : ℕ) (ks : List ℕ) → c < 65536 → (cellIn v ≡ c → ⊥) → count v (map (pack c) ks) ≡ 0
+count-other : (c v : ℕ) (ks : List ℕ) → c < 65536 → (packedCell v ≡ c → ⊥) → count v (map (pack c) ks) ≡ 0
 unfolding count
 count-other c v [] h n = refl
 count-other c v (k ∷ ks) h n = omega (arith, count-cons v (pack c k) (map (pack c) ks), hit-other v (pack c k) (λ e. n (omega arith)), count-other c v ks h n)
 
-count-cell : (c v : ℕ) (ks : List ℕ) → c < 65536 → count v (map (pack c) ks) ≤ count (keyIn v) ks
+count-cell : (c v : ℕ) (ks : List ℕ) → c < 65536 → count v (map (pack c) ks) ≤ count (packedKey v) ks
 unfolding count
 count-cell c v [] h = omega arith
 count-cell c v (k ∷ ks) h =
     by-test (eqb (pack c k) v)
     (λ e.
-    let i : k ≡ keyIn v = omega (arith, eqb-true (pack c k) v e) in
-    omega (arith, count-cons v (pack c k) (map (pack c) ks), ap (hit v) (eqb-true (pack c k) v e), hit-same v, count-cons (keyIn v) k ks, ap (hit (keyIn v)) i, hit-same (keyIn v), count-cell c v ks h))
-    (λ e. omega (arith, count-cons v (pack c k) (map (pack c) ks), hit-other v (pack c k) (eqb-false (pack c k) v e), count-cons (keyIn v) k ks, count-cell c v ks h))
+    let i : k ≡ packedKey v = omega (arith, eqb-true (pack c k) v e) in
+    omega (arith, count-cons v (pack c k) (map (pack c) ks), ap (hit v) (eqb-true (pack c k) v e), hit-same v, count-cons (packedKey v) k ks, ap (hit (packedKey v)) i, hit-same (packedKey v), count-cell c v ks h))
+    (λ e. omega (arith, count-cons v (pack c k) (map (pack c) ks), hit-other v (pack c k) (eqb-false (pack c k) v e), count-cons (packedKey v) k ks, count-cell c v ks h))
 
 module _ (g : Containers) (p : Box → Bool) where
   filed-few : (b : Box) (v : ℕ) → count v (filedKeys g p b) ≤ 1
@@ -161,7 +161,7 @@ module _ (g : Containers) (p : Box → Bool) where
   filed-few b v = by-test (p b) (λ e. rw e (once-few (map (cellKey g) (boxCorners b)) [] (λ w. omega arith) v)) (λ e. rw e (omega arith))
 
   -- none of a cell before
-  count-later : (c : ℕ) (bs : List Box) (v : ℕ) → cellIn v < c → c + length bs ≤ 65536 → count v (packedRows g p c bs) ≡ 0
+  count-later : (c : ℕ) (bs : List Box) (v : ℕ) → packedCell v < c → c + length bs ≤ 65536 → count v (packedRows g p c bs) ≡ 0
   unfolding packedRows count
   count-later c [] v h k = refl
   count-later c (b ∷ bs) v h k =
@@ -177,21 +177,21 @@ module _ (g : Containers) (p : Box → Bool) where
   unfolding packedRows count
   packed-few c [] k v = omega arith
   packed-few c (b ∷ bs) k v =
-      by-test (eqb (cellIn v) c)
+      by-test (eqb (packedCell v) c)
       (λ e.
-      let i : cellIn v ≡ c = eqb-true (cellIn v) c e in
+      let i : packedCell v ≡ c = eqb-true (packedCell v) c e in
       omega (
         arith,
         count-append v (map (pack c) (filedKeys g p b)) (packedRows g p (suc c) bs),
         count-cell c v (filedKeys g p b) (omega arith),
-        filed-few b (keyIn v),
+        filed-few b (packedKey v),
         count-later (suc c) bs v (omega arith) (omega arith),
       ))
       (λ e.
       omega (
         arith,
         count-append v (map (pack c) (filedKeys g p b)) (packedRows g p (suc c) bs),
-        count-other c v (filedKeys g p b) (omega arith) (eqb-false (cellIn v) c e),
+        count-other c v (filedKeys g p b) (omega arith) (eqb-false (packedCell v) c e),
         packed-few (suc c) bs (omega arith) v,
       ))
 
@@ -223,14 +223,14 @@ module _ (g : Containers) (p : Box → Bool) where
 
 -- ---- numbers back to slots
 
-keys-back : (rows : List Slot) → all small rows ≡ true → map keyIn (map packed rows) ≡ map (λ (p : Slot). p .key) rows
+keys-back : (rows : List Slot) → all small rows ≡ true → map packedKey (map packed rows) ≡ map (λ (p : Slot). p .key) rows
 unfolding all
 keys-back [] s = refl
 keys-back (q ∷ qs) s =
     let low : q .id < 65536 = ltb-true (q .id) 65536 (and-left (small q) (all small qs) s) in
     ap₂ _∷_ (omega arith) (keys-back qs (and-right (small q) (all small qs) s))
 
-cells-back : (rows : List Slot) → all small rows ≡ true → map cellIn (map packed rows) ≡ map (λ (p : Slot). p .id) rows
+cells-back : (rows : List Slot) → all small rows ≡ true → map packedCell (map packed rows) ≡ map (λ (p : Slot). p .id) rows
 unfolding all
 cells-back [] s = refl
 cells-back (q ∷ qs) s =
@@ -247,11 +247,11 @@ module _ (g : Containers) (p : Box → Bool) (bs : List Box) (h : length bs ≤ 
   unfolding all
   rows-small = small-files g p 0 bs [] (omega arith) refl
 
-  pub rows-keys : map keyIn (sortedOf (packedRows g p 0 bs)) ≡ map (λ (q : Slot). q .key) (fileCells g p 0 bs [])
-  rows-keys = ap (map keyIn) (sym rows-sorted) ∙ keys-back (fileCells g p 0 bs []) rows-small
+  pub rows-keys : map packedKey (sortedOf (packedRows g p 0 bs)) ≡ map (λ (q : Slot). q .key) (fileCells g p 0 bs [])
+  rows-keys = ap (map packedKey) (sym rows-sorted) ∙ keys-back (fileCells g p 0 bs []) rows-small
 
-  pub rows-cells : map cellIn (sortedOf (packedRows g p 0 bs)) ≡ map (λ (q : Slot). q .id) (fileCells g p 0 bs [])
-  rows-cells = ap (map cellIn) (sym rows-sorted) ∙ cells-back (fileCells g p 0 bs []) rows-small
+  pub rows-cells : map packedCell (sortedOf (packedRows g p 0 bs)) ≡ map (λ (q : Slot). q .id) (fileCells g p 0 bs [])
+  rows-cells = ap (map packedCell) (sym rows-sorted) ∙ cells-back (fileCells g p 0 bs []) rows-small
 
   pub rows-count : length (packedRows g p 0 bs) ≡ length (fileCells g p 0 bs [])
   rows-count = sym (length-sorted (packedRows g p 0 bs)) ∙ ap length (sym rows-sorted) ∙ length-map (fileCells g p 0 bs []) packed

@@ -20,9 +20,9 @@ unfolding keyOf
 cellKey g x = keyOf (counts (g .ndim) (g .ndiv)) (g .«side_length») (coords (g .ndim) (g .xmin)) x
 
 -- 17: a ratio exceeds its divisions
-unfoldable pub overshoots : Containers → List Float → Bool
+unfoldable pub cellExceeds : Containers → List Float → Bool
 unfolding exceed ratios
-overshoots g x = exceed (counts (g .ndim) (g .ndiv)) (ratios (g .«side_length») (coords (g .ndim) (g .xmin)) x)
+cellExceeds g x = exceed (counts (g .ndim) (g .ndiv)) (ratios (g .«side_length») (coords (g .ndim) (g .xmin)) x)
 
 -- ---- each small cell is filed under the corners of its bounding box
 
@@ -55,6 +55,6 @@ fileCells g p c [] rows = rows
 fileCells g p c (b ∷ bs) rows = fileCells g p (suc c) bs (cond (p b) (fileCell g c (boxCorners b) rows) rows)
 
 -- 17: a ratio of a box's corner exceeds its divisions
-unfoldable pub overshootsBox : Containers → Box → Bool
-unfolding any overshoots boxCorners
-overshootsBox g b = any (overshoots g) (boxCorners b)
+unfoldable pub boxExceeds : Containers → Box → Bool
+unfolding any cellExceeds boxCorners
+boxExceeds g b = any (cellExceeds g) (boxCorners b)

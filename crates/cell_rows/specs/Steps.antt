@@ -15,11 +15,10 @@ use Rattle.grid.specs.declared.Located.the-variants.{Key, Exceeds}
 use Rattle.grid.specs.Divisions.{counts, division}
 use Rattle.mesh.specs.Mesh.{Box}
 use Rattle.table.specs.Rows.{Slot}
-use Rattle.cell_sizes.specs.Large.{isLarge, numbered}
 use Rattle.cell_rows.specs.declared.Containers.{Containers}
 use Rattle.cell_rows.specs.declared.Keys.{Keys}
 use Rattle.cell_rows.specs.declared.Keys.the-variants.{Count, TooFar}
-use Rattle.cell_rows.specs.Filing.{cellKey, overshoots, boxCorners, overshootsBox}
+use Rattle.cell_rows.specs.Filing.{cellKey, cellExceeds, boxCorners, boxExceeds}
 
 -- a number at the end of a list, if it is not there yet; and one after the other
 unfoldable pub joinOnce : ℕ → List ℕ → List ℕ
@@ -40,11 +39,11 @@ filedKeys g p b = cond (p b) (boxKeys g b) []
 abbrev pub pack : ℕ → ℕ → ℕ
 pack c k = k * 65536 + c
 
-abbrev pub keyIn : ℕ → ℕ
-keyIn v = v / 65536
+abbrev pub packedKey : ℕ → ℕ
+packedKey v = v / 65536
 
-abbrev pub cellIn : ℕ → ℕ
-cellIn v = v % 65536
+abbrev pub packedCell : ℕ → ℕ
+packedCell v = v % 65536
 
 -- the rows of the cells from number c on, cell by cell
 unfoldable pub packedRows : Containers → (Box → Bool) → ℕ → List Box → List ℕ
@@ -54,27 +53,27 @@ packedRows g p c (b ∷ bs) = map (pack c) (filedKeys g p b) ++ packedRows g p (
 -- ---- filing
 
 -- an index whose containers have numbers
-pub record Divided (g : Containers) : Type 0 where
+pub record Keyed (g : Containers) : Type 0 where
   pub axes : dimension (g .ndim) ≡ true
   pub divisions : all division (counts (g .ndim) (g .ndiv)) ≡ true
 
 -- the container of a position: that a ratio exceeds its divisions, or its key
-unfoldable pub containerOf : Containers → List Float → Located
-containerOf g x = cond (overshoots g x) Exceeds (Key (record { 0 = cellKey g x }))
+unfoldable pub cellContainer : Containers → List Float → Located
+cellContainer g x = cond (cellExceeds g x) Exceeds (Key (record { 0 = cellKey g x }))
 
 -- the first n of a list of eight with k at their end, if it is not among them
 pub record Joined (l : List ℕ) (n k r : ℕ) (l′ : List ℕ) : Type 0 where
   pub size : length l′ ≡ 8
   pub most : r ≤ n + 1
-  pub front : take r l′ ≡ joinOnce k (take n l)
+  pub held : take r l′ ≡ joinOnce k (take n l)
 
 -- the keys of a box, unless a corner's ratio exceeds its divisions
 unfoldable pub boxKeysOr : Containers → Box → Option (List ℕ)
-boxKeysOr g b = cond (overshootsBox g b) none (some (boxKeys g b))
+boxKeysOr g b = cond (boxExceeds g b) none (some (boxKeys g b))
 
 -- 17: a filed box has such a corner
 unfoldable pub tooFar : Containers → (Box → Bool) → Box → Bool
-tooFar g p b = p b && overshootsBox g b
+tooFar g p b = p b && boxExceeds g b
 
 unfoldable pub filedKeysOr : Containers → (Box → Bool) → Box → Option (List ℕ)
 filedKeysOr g p b = cond (tooFar g p b) none (some (filedKeys g p b))
@@ -123,7 +122,3 @@ pub record Filed (rows : List Slot) (keys cells keys′ cells′ : List ℕ) : T
 pub record Noted (large : Bool) (cell n : ℕ) (l : List ℕ) (r : ℕ) (l′ : List ℕ) : Type 0 where
   pub count : r ≡ cond large (n + 1) n
   pub are : l′ ≡ cond large (set l n cell) l
-
--- the large cells that are kept apart
-unfoldable pub largeOf : Bool → Float → List Box → List ℕ
-largeOf apart limit bs = cond apart (numbered (isLarge limit) 0 bs) []

@@ -10,9 +10,9 @@ ghost use lib.Seq.{paste};
 ghost use Rattle.basics.specs.Lists.{all, over};
 ghost use Rattle.geometry.specs.Position.{coords as axes, dimension};
 ghost use Rattle.mesh.specs.Mesh.{meshOf, cellCount, Whole, boxed};
-ghost use Rattle.cell_sizes.specs.Large.{boxes, isLarge, isFiled, numbered};
+ghost use Rattle.cell_sizes.specs.Large.{boxes, isLarge, isFiled, numbered, largeOf};
 ghost use Rattle.cell_rows.specs.Filing.{boxCorner, fileCells};
-ghost use Rattle.cell_rows.specs.Steps.{Divided, containerOf, Joined, Holds, boxKeysOr, filedKeysOr, rowsIn, rowCountOr, pack, keyIn, cellIn, packedRows, Fitting, Written, Filed, Noted, largeOf};
+ghost use Rattle.cell_rows.specs.Steps.{Keyed, cellContainer, Joined, Holds, boxKeysOr, filedKeysOr, rowsIn, rowCountOr, pack, packedKey, packedCell, packedRows, Fitting, Written, Filed, Noted};
 use cell_sizes::Sizes;
 use geometry::Position;
 use grid::Divisions;
@@ -35,8 +35,8 @@ pub enum Keys {
 
 // The container that a position falls into.
 pub fn container(grid: Containers, x: Position) -> Located
-    requires { ⌜ Divided grid ⌝ }
-    ensures { λ r. ⌜ r ≡ containerOf grid (axes (grid .ndim) x) ⌝ }
+    requires { ⌜ Keyed grid ⌝ }
+    ensures { λ r. ⌜ r ≡ cellContainer grid (axes (grid .ndim) x) ⌝ }
 {
     let ndiv = grid.ndiv;
     let xmin = grid.xmin;
@@ -75,7 +75,7 @@ fn join_once(keys: &mut [u64; 8], n: usize, key: u64) -> usize
 
 // The keys of the containers that the corners of a box fall into, once each.
 fn corner_keys(grid: Containers, b: BoundingBox, keys: &mut [u64; 8]) -> Keys
-    requires { ⌜ Divided grid ⌝ ∗ ⌜ length (now keys) ≡ 8 ⌝ }
+    requires { ⌜ Keyed grid ⌝ ∗ ⌜ length (now keys) ≡ 8 ⌝ }
     ensures { λ r. ⌜ Holds (boxKeysOr grid (boxed (grid .ndim) b)) r (now (keys .exit)) ⌝ }
 {
     let ncorner = geometry::corner_count(grid.ndim);
@@ -93,7 +93,7 @@ fn corner_keys(grid: Containers, b: BoundingBox, keys: &mut [u64; 8]) -> Keys
 
 // The keys of a cell's containers; none for a cell that is kept apart.
 fn cell_keys(grid: Containers, sizes: Sizes, b: BoundingBox, keys: &mut [u64; 8]) -> Keys
-    requires { ⌜ Divided grid ⌝ ∗ ⌜ length (now keys) ≡ 8 ⌝ }
+    requires { ⌜ Keyed grid ⌝ ∗ ⌜ length (now keys) ≡ 8 ⌝ }
     ensures { λ r. ⌜ Holds (filedKeysOr grid (isFiled (sizes .apart) (sizes .limit)) (boxed (grid .ndim) b)) r (now (keys .exit)) ⌝ }
 {
     if sizes.is_filed(grid.ndim, b) {
@@ -110,7 +110,7 @@ pub fn count_rows(
     corners: &[u32],
     ncell: usize,
 ) -> Keys
-    requires { ⌜ Divided grid ⌝ ∗ ⌜ Whole (grid .ndim) (meshOf (now coords) (now corners)) ⌝ ∗ ⌜ ncell ≡ cellCount (grid .ndim) (meshOf (now coords) (now corners)) ⌝ ∗ ⌜ ncell ≤ 65536 ⌝ }
+    requires { ⌜ Keyed grid ⌝ ∗ ⌜ Whole (grid .ndim) (meshOf (now coords) (now corners)) ⌝ ∗ ⌜ ncell ≡ cellCount (grid .ndim) (meshOf (now coords) (now corners)) ⌝ ∗ ⌜ ncell ≤ 65536 ⌝ }
     ensures { λ r. ⌜ rowsIn r ≡ rowCountOr grid (isFiled (sizes .apart) (sizes .limit)) (boxes (grid .ndim) (meshOf (now (coords .entry)) (now (corners .entry)))) ⌝ }
 {
     let ndim = grid.ndim;
@@ -157,7 +157,7 @@ fn pack_rows(
     ncell: usize,
     rows: &mut [u64],
 ) -> usize
-    requires { ⌜ Divided grid ⌝ ∗ ⌜ Whole (grid .ndim) (meshOf (now coords) (now corners)) ⌝ ∗ ⌜ ncell ≡ cellCount (grid .ndim) (meshOf (now coords) (now corners)) ⌝ ∗ ⌜ ncell ≤ 65536 ⌝ ∗ ⌜ Fitting grid (isFiled (sizes .apart) (sizes .limit)) (boxes (grid .ndim) (meshOf (now coords) (now corners))) (now rows) ⌝ }
+    requires { ⌜ Keyed grid ⌝ ∗ ⌜ Whole (grid .ndim) (meshOf (now coords) (now corners)) ⌝ ∗ ⌜ ncell ≡ cellCount (grid .ndim) (meshOf (now coords) (now corners)) ⌝ ∗ ⌜ ncell ≤ 65536 ⌝ ∗ ⌜ Fitting grid (isFiled (sizes .apart) (sizes .limit)) (boxes (grid .ndim) (meshOf (now coords) (now corners))) (now rows) ⌝ }
     ensures { λ r. ⌜ Written (packedRows grid (isFiled (sizes .apart) (sizes .limit)) 0 (boxes (grid .ndim) (meshOf (now (coords .entry)) (now (corners .entry))))) (now (rows .entry)) r (now (rows .exit)) ⌝ }
 {
     let ndim = grid.ndim;
@@ -179,7 +179,7 @@ fn pack_rows(
 // Takes the first n rows apart: keys stay in `keys`, cells go to `cells`.
 fn unpack(keys: &mut [u64], cells: &mut [u64], n: usize)
     requires { ⌜ (n ≤ length (now keys)) × (n ≤ length (now cells)) ⌝ }
-    ensures { λ _. ⌜ (now (keys .exit) ≡ paste (now (keys .entry)) 0 (map keyIn (now (keys .entry))) n) × (now (cells .exit) ≡ paste (now (cells .entry)) 0 (map cellIn (now (keys .entry))) n) ⌝ }
+    ensures { λ _. ⌜ (now (keys .exit) ≡ paste (now (keys .entry)) 0 (map packedKey (now (keys .entry))) n) × (now (cells .exit) ≡ paste (now (cells .entry)) 0 (map packedCell (now (keys .entry))) n) ⌝ }
 {
     let mut i = 0;
     while i < n {
@@ -199,7 +199,7 @@ pub fn file_cells(
     keys: &mut [u64],
     cells: &mut [u64],
 )
-    requires { ⌜ Divided grid ⌝ ∗ ⌜ Whole (grid .ndim) (meshOf (now coords) (now corners)) ⌝ ∗ ⌜ ncell ≡ cellCount (grid .ndim) (meshOf (now coords) (now corners)) ⌝ ∗ ⌜ ncell ≤ 65536 ⌝ ∗ ⌜ (length (now cells) ≡ length (now keys)) × Fitting grid (isFiled (sizes .apart) (sizes .limit)) (boxes (grid .ndim) (meshOf (now coords) (now corners))) (now keys) ⌝ }
+    requires { ⌜ Keyed grid ⌝ ∗ ⌜ Whole (grid .ndim) (meshOf (now coords) (now corners)) ⌝ ∗ ⌜ ncell ≡ cellCount (grid .ndim) (meshOf (now coords) (now corners)) ⌝ ∗ ⌜ ncell ≤ 65536 ⌝ ∗ ⌜ (length (now cells) ≡ length (now keys)) × Fitting grid (isFiled (sizes .apart) (sizes .limit)) (boxes (grid .ndim) (meshOf (now coords) (now corners))) (now keys) ⌝ }
     ensures { λ _. ⌜ Filed (fileCells grid (isFiled (sizes .apart) (sizes .limit)) 0 (boxes (grid .ndim) (meshOf (now (coords .entry)) (now (corners .entry)))) []) (now (keys .entry)) (now (cells .entry)) (now (keys .exit)) (now (cells .exit)) ⌝ }
 {
     let n = pack_rows(grid, sizes, coords, corners, ncell, keys);

@@ -17,13 +17,15 @@ use Rattle.basics.proofs.Bools.{by-test, clash, and-both}
 use Rattle.basics.specs.Lists.{keep, tab}
 use Rattle.basics.proofs.Lists.{length-tab, map-tab, map-take, map-drop, tab-take}
 use Rattle.basics.specs.Refusals.{success}
+use Rattle.floats.specs.Rounded.{zeroF}
 use Rattle.mesh.specs.Mesh.{Mesh}
+use Rattle.mesh.specs.Cell.{contains}
 use Rattle.table.specs.Rows.{Slot, slotted, before, chain, sorted, lower, slotAt, slotsOf}
 use Rattle.table.proofs.Order.{Lex, before-lex, lex-before, chain-sorted, lower-le}
 use Rattle.cell_search.specs.declared.FoundCell.{FoundCell}
 use Rattle.cell_search.specs.Steps.{Own}
 use Rattle.cell_search.specs.declared.FoundCell.the-variants.{Cell, Nothing, Refused}
-use Rattle.cell_search.specs.Search.{firstCell, CellSearch, settleSearch, foundCell, leaves}
+use Rattle.cell_search.specs.Search.{firstCell, answerCell, tryCells, CellSearch, foundCell, leaves}
 
 -- ---- the order of slots, by their keys
 
@@ -110,11 +112,11 @@ module _ (key : ℕ) where
       passed l = pass p ps l
 
 -- the same in the two lists
-pub container-part : (keys cells : List ℕ) (used key from to : ℕ) → used ≤ length cells → sorted (slotsOf keys cells used) ≡ true
+pub container-part : (keys cells : List ℕ) (used key : ℕ) {from to : ℕ} → used ≤ length cells → sorted (slotsOf keys cells used) ≡ true
     → from ≡ lower (slotted key 0) (slotsOf keys cells used) → to ≡ lower (slotted (key + 1) 0) (slotsOf keys cells used)
     → Own keys cells used key (record { from = from; to = to })
 unfolding slotsOf
-container-part keys cells used key from to h o f t =
+container-part keys cells used key {from} {to} h o f t =
     let rows = tab used (slotAt keys cells) in
     let id : Slot → ℕ = λ (p : Slot). p .id in
     let next = slotted (key + 1) 0 in
@@ -141,38 +143,41 @@ module _ (p : ℕ → Bool) where
       no : some i ≡ none → ⊥
       no f = let z : _≡_ {A = ℕ} 0 1 = cc in omega arith
 
-module _ (n : ℕ) (m : Mesh) (zeta x : List Float) (p : ℕ → Bool) (a b : List ℕ) (r : FoundCell) (zeta′ : List Float) (e : leaves r zeta′ ≡ settleSearch none n m zeta x (firstCell p a)) where
-  by-option : (o : Option ℕ) → firstCell p a ≡ o → leaves r zeta′ ≡ settleSearch none n m zeta x o
-  by-option o f = e ∙ ap (settleSearch none n m zeta x) f
+nothing-is : (q : FoundCell) → foundCell q ≡ success none → q ≡ Nothing
+nothing-is (Cell c) f = let z : _≡_ {A = ℕ} 0 1 = cc in absurd (omega arith)
+nothing-is Nothing f = refl
+nothing-is (Refused k) f = let z : _≡_ {A = ℕ} 0 1 = cc in absurd (omega arith)
 
-  none-answer : firstCell p a ≡ none → (foundCell r ≡ success none) × (zeta′ ≡ zeta)
-  unfolding settleSearch
+module _ (n : ℕ) (m : Mesh) (zeta x : List Float) (a b : List ℕ) (r : FoundCell) {zeta′ : List Float} (e : leaves r zeta′ ≡ tryCells n m zeta x a) where
+  by-option : (o : Option ℕ) → firstCell (contains n m zeroF x) a ≡ o → leaves r zeta′ ≡ answerCell n m zeta x o
+  unfolding tryCells
+  by-option o f = e ∙ ap (answerCell n m zeta x) f
+
+  none-answer : firstCell (contains n m zeroF x) a ≡ none → (foundCell r ≡ success none) × (zeta′ ≡ zeta)
+  unfolding answerCell
   none-answer f = let g = by-option none f in (ap (λ (s : CellSearch). s .answer) g, ap (λ (s : CellSearch). s .zeta) g)
 
-  nothing-is : (q : FoundCell) → foundCell q ≡ success none → q ≡ Nothing
-  nothing-is (Cell c) f = let z : _≡_ {A = ℕ} 0 1 = cc in absurd (omega arith)
-  nothing-is Nothing f = refl
-  nothing-is (Refused k) f = let z : _≡_ {A = ℕ} 0 1 = cc in absurd (omega arith)
-
   -- a cell of the first list contains the position
-  pub found-first : (r ≡ Nothing → ⊥) → leaves r zeta′ ≡ settleSearch none n m zeta x (firstCell p (a ++ b))
-  found-first h = go (firstCell p a) refl
+  pub found-first : (r ≡ Nothing → ⊥) → leaves r zeta′ ≡ tryCells n m zeta x (a ++ b)
+  unfolding tryCells
+  found-first h = go (firstCell (contains n m zeroF x) a) refl
     where
-      go : (o : Option ℕ) → firstCell p a ≡ o → leaves r zeta′ ≡ settleSearch none n m zeta x (firstCell p (a ++ b))
+      go : (o : Option ℕ) → firstCell (contains n m zeroF x) a ≡ o → leaves r zeta′ ≡ answerCell n m zeta x (firstCell (contains n m zeroF x) (a ++ b))
       go none f = absurd (h (nothing-is r (none-answer f .0)))
-      go (some c) f = by-option (some c) f ∙ ap (settleSearch none n m zeta x) (sym (first-left p a b c f))
+      go (some c) f = by-option (some c) f ∙ ap (answerCell n m zeta x) (sym (first-left (contains n m zeroF x) a b c f))
 
   -- none does
-  none-first : r ≡ Nothing → (zeta′ ≡ zeta) × (firstCell p (a ++ b) ≡ firstCell p b)
-  unfolding settleSearch
-  none-first h = go (firstCell p a) refl
+  none-first : r ≡ Nothing → (zeta′ ≡ zeta) × (firstCell (contains n m zeroF x) (a ++ b) ≡ firstCell (contains n m zeroF x) b)
+  unfolding answerCell
+  none-first h = go (firstCell (contains n m zeroF x) a) refl
     where
-      go : (o : Option ℕ) → firstCell p a ≡ o → (zeta′ ≡ zeta) × (firstCell p (a ++ b) ≡ firstCell p b)
-      go none f = (none-answer f .1, first-right p a b f)
+      go : (o : Option ℕ) → firstCell (contains n m zeroF x) a ≡ o → (zeta′ ≡ zeta) × (firstCell (contains n m zeroF x) (a ++ b) ≡ firstCell (contains n m zeroF x) b)
+      go none f = (none-answer f .1, first-right (contains n m zeroF x) a b f)
       go (some c) f =
           let g : foundCell Nothing ≡ success (some c) = ap foundCell (sym h) ∙ ap (λ (s : CellSearch). s .answer) (by-option (some c) f) in
           let z : _≡_ {A = ℕ} 0 1 = cc in
           absurd (omega arith)
 
-  pub found-second : r ≡ Nothing → (s : FoundCell) (zeta″ : List Float) → leaves s zeta″ ≡ settleSearch none n m zeta′ x (firstCell p b) → leaves s zeta″ ≡ settleSearch none n m zeta x (firstCell p (a ++ b))
-  found-second h s zeta″ g = let d = none-first h in g ∙ rw (d .0, d .1)
+  pub found-second : r ≡ Nothing → (s : FoundCell) {zeta″ : List Float} → leaves s zeta″ ≡ tryCells n m zeta′ x b → leaves s zeta″ ≡ tryCells n m zeta x (a ++ b)
+  unfolding tryCells
+  found-second h s g = let d = none-first h in g ∙ rw (d .0, d .1)

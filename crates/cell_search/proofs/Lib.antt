@@ -1,6 +1,5 @@
--- Laws of a search: its refusals, the walk over cells, the cells of a container, and each answer.
-pub mod Axes
-pub mod Refused
+-- Laws of a search: the walk over cells, the cells of a container, each answer, and the index of one triangle evaluated.
 pub mod Walk
 pub mod Container
 pub mod Answers
+mod Examples

@@ -1,4 +1,3 @@
 -- The words of the contract of module 10's search.
 pub mod Search
 pub mod Steps
-pub mod Examples

@@ -2,27 +2,25 @@
 ghost use Prim.Native.Nat.{_+_, _<_};
 ghost use mathlib.Core.Path.{_≡_};
 ghost use mathlib.Core.Bool.{true, _||_};
-ghost use mathlib.Core.Option.{none};
 ghost use mathlib.Core.List.{_++_};
 ghost use lib.ListN.{length};
 ghost use lib.Seq.{slice};
 ghost use lib.Ieee.{lt};
 ghost use Rattle.basics.specs.Lists.{over};
-ghost use Rattle.floats.specs.Rounded.{zeroF};
+ghost use Rattle.basics.specs.Refusals.{fault, answer};
 ghost use Rattle.geometry.specs.Position.{coords as axes, axisOf, dimension};
 ghost use Rattle.geometry.specs.Cells.{zetas as listed};
 ghost use Rattle.mesh.specs.Mesh.{meshOf, Whole};
-ghost use Rattle.mesh.specs.Cell.{contains};
 ghost use Rattle.table.specs.Posts.{Ordered};
-ghost use Rattle.grid_cells.specs.Build.{lentOf};
-ghost use Rattle.cell_search.specs.Search.{firstCell, cellSearch, settleSearch, leaves};
-ghost use Rattle.cell_search.specs.Steps.{Numbers, Own, Sound, tried};
-
-mod refusals;
-
-use cell_rows::Containers;
+ghost use Rattle.cell_rows.specs.Filing.{cellKey};
+ghost use Rattle.cell_rows.specs.Steps.{Keyed};
+ghost use Rattle.grid_cells.specs.Build.{containersOf, indexLists};
+ghost use Rattle.cell_index.specs.Steps.{Numbers, Usable};
+ghost use Rattle.cell_search.specs.Search.{askedTests, candidates, tryCells, cellSearch, leaves};
+ghost use Rattle.cell_search.specs.Steps.{asked, Own};
 use geometry::Position;
 use geometry::Zeta;
+use grid::ContainerKey;
 use grid::Located;
 use grid_cells::CellId;
 use grid_cells::GridCells;
@@ -32,6 +30,12 @@ use mesh::BoundingBox;
 pub enum FoundCell {
     Cell(CellId),
     Nothing,
+    Refused(u64),
+}
+
+// The container to look into, or why there is none.
+enum Asked {
+    In(ContainerKey),
     Refused(u64),
 }
 
@@ -74,7 +78,7 @@ fn find_cell(
     zeta: &mut [f64],
 ) -> FoundCell
     requires { ⌜ Whole ndim (meshOf (now coords) (now corners)) ⌝ ∗ ⌜ Numbers ndim (meshOf (now coords) (now corners)) to (now cells) ⌝ ∗ ⌜ length (now zeta) ≡ 4 ⌝ }
-    ensures { λ r. ⌜ leaves r (now (zeta .exit)) ≡ settleSearch none ndim (meshOf (now (coords .entry)) (now (corners .entry))) (now (zeta .entry)) (axes ndim x) (firstCell (contains ndim (meshOf (now (coords .entry)) (now (corners .entry))) zeroF (axes ndim x)) (slice from to (now (cells .entry)))) ⌝ }
+    ensures { λ r. ⌜ leaves r (now (zeta .exit)) ≡ tryCells ndim (meshOf (now (coords .entry)) (now (corners .entry))) (now (zeta .entry)) (axes ndim x) (slice from to (now (cells .entry))) ⌝ }
 {
     'outer: for at in from..to {
         let cell_id = cells[at];
@@ -107,7 +111,7 @@ fn find_either(
     zeta: &mut [f64],
 ) -> FoundCell
     requires { ⌜ Whole ndim (meshOf (now coords) (now corners)) ⌝ ∗ ⌜ Numbers ndim (meshOf (now coords) (now corners)) (a .to) (now first) ⌝ ∗ ⌜ Numbers ndim (meshOf (now coords) (now corners)) (b .to) (now second) ⌝ ∗ ⌜ length (now zeta) ≡ 4 ⌝ }
-    ensures { λ r. ⌜ leaves r (now (zeta .exit)) ≡ settleSearch none ndim (meshOf (now (coords .entry)) (now (corners .entry))) (now (zeta .entry)) (axes ndim x) (firstCell (contains ndim (meshOf (now (coords .entry)) (now (corners .entry))) zeroF (axes ndim x)) (slice (a .from) (a .to) (now (first .entry)) ++ slice (b .from) (b .to) (now (second .entry)))) ⌝ }
+    ensures { λ r. ⌜ leaves r (now (zeta .exit)) ≡ tryCells ndim (meshOf (now (coords .entry)) (now (corners .entry))) (now (zeta .entry)) (axes ndim x) (slice (a .from) (a .to) (now (first .entry)) ++ slice (b .from) (b .to) (now (second .entry))) ⌝ }
 {
     let found = find_cell(ndim, coords, corners, first, a.from, a.to, x, zeta);
     let FoundCell::Nothing = found else {
@@ -139,8 +143,8 @@ fn find(
     x: Position,
     zeta: &mut [f64],
 ) -> FoundCell
-    requires { ⌜ Whole (grid .ndim) (meshOf (now coords) (now corners)) ⌝ ∗ ⌜ Sound grid (meshOf (now coords) (now corners)) (lentOf (now keys) (now cells) (now large)) ⌝ ∗ ⌜ (key < 1073741824) × (length (now zeta) ≡ 4) ⌝ }
-    ensures { λ r. ⌜ leaves r (now (zeta .exit)) ≡ settleSearch none (grid .ndim) (meshOf (now (coords .entry)) (now (corners .entry))) (now (zeta .entry)) (axes (grid .ndim) x) (firstCell (contains (grid .ndim) (meshOf (now (coords .entry)) (now (corners .entry))) zeroF (axes (grid .ndim) x)) (tried grid (lentOf (now (keys .entry)) (now (cells .entry)) (now (large .entry))) key)) ⌝ }
+    requires { ⌜ Usable grid (meshOf (now coords) (now corners)) (indexLists (now keys) (now cells) (now large)) ⌝ ∗ ⌜ (key < 1073741824) × (length (now zeta) ≡ 4) ⌝ }
+    ensures { λ r. ⌜ leaves r (now (zeta .exit)) ≡ tryCells (grid .ndim) (meshOf (now (coords .entry)) (now (corners .entry))) (now (zeta .entry)) (axes (grid .ndim) x) (candidates grid (indexLists (now (keys .entry)) (now (cells .entry)) (now (large .entry))) key) ⌝ }
 {
     let ndim = grid.ndim;
     let all = Span {
@@ -149,6 +153,30 @@ fn find(
     };
     let own = container_rows(keys, cells, grid.used, key);
     find_either(ndim, coords, corners, large, all, cells, own, x, zeta)
+}
+
+// The container of a position, or the refusal 25, 2, 3, 11 or 17.
+fn locate(grid: GridCells, coords: &[f64], nzeta: usize, x: &[f64]) -> Asked
+    requires { ⌜ Keyed (containersOf grid) ⌝ }
+    ensures { λ r. ⌜ asked r ≡ answer (fault (askedTests grid (now (coords .entry)) nzeta (now (x .entry)))) (cellKey (containersOf grid) (now (x .entry))) ⌝ }
+{
+    if nzeta != 4 {
+        return Asked::Refused(25);
+    }
+    if x.len() != grid.ndim {
+        return Asked::Refused(2);
+    }
+    if !(geometry::all_coordinates(x) & geometry::all_coordinates(coords)) {
+        return Asked::Refused(3);
+    }
+    let at = Position::new(x);
+    if grid::is_outside(grid.ndim, grid.xmin, grid.xmax, at) {
+        return Asked::Refused(11);
+    }
+    let Located::Key(key) = cell_rows::container(grid.containers(), at) else {
+        return Asked::Refused(17);
+    };
+    Asked::In(key)
 }
 
 // The cell at a position, with the position's coordinates in it, or nothing, or the refusal. Large cells are tried first,
@@ -163,30 +191,27 @@ pub fn search(
     x: &[f64],
     zeta: &mut [f64],
 ) -> FoundCell
-    ensures { λ r. ⌜ leaves r (now (zeta .exit)) ≡ cellSearch grid (meshOf (now (coords .entry)) (now (corners .entry))) (lentOf (now (keys .entry)) (now (cells .entry)) (now (large .entry))) (now (zeta .entry)) (now (x .entry)) ⌝ }
+    ensures { λ r. ⌜ leaves r (now (zeta .exit)) ≡ cellSearch grid (meshOf (now (coords .entry)) (now (corners .entry))) (indexLists (now (keys .entry)) (now (cells .entry)) (now (large .entry))) (now (zeta .entry)) (now (x .entry)) ⌝ }
 {
-    let lists = refusals::lists_refused(grid.ndim, coords, corners, keys, cells, large);
-    if lists != 0 {
-        return FoundCell::Refused(lists);
+    let refused = cell_index::refused(grid, coords, corners, keys, cells, large);
+    if refused != 0 {
+        return FoundCell::Refused(refused);
     }
-    if !refusals::is_sound(grid, corners, keys, cells, large) {
-        return FoundCell::Refused(13);
+    let at = locate(grid, coords, zeta.len(), x);
+    match at {
+        Asked::In(key) => {
+            find(
+                grid,
+                coords,
+                corners,
+                keys,
+                cells,
+                large,
+                key.0,
+                Position::new(x),
+                zeta,
+            )
+        }
+        Asked::Refused(n) => FoundCell::Refused(n),
     }
-    let wrong = refusals::position_refused(grid, coords, x, zeta.len());
-    if wrong != 0 {
-        return FoundCell::Refused(wrong);
-    }
-    let at = Position::new(x);
-    let ndiv = grid.ndiv;
-    let xmin = grid.xmin;
-    let containers = Containers {
-        ndim: grid.ndim,
-        ndiv,
-        side_length: grid.side_length,
-        xmin,
-    };
-    let Located::Key(key) = cell_rows::container(containers, at) else {
-        return FoundCell::Refused(17);
-    };
-    find(grid, coords, corners, keys, cells, large, key.0, at, zeta)
 }

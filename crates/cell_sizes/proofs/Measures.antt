@@ -11,17 +11,17 @@ use lib.ListN.{length, drop}
 use lib.Ieee.{Float, le}
 use borrow.Author.Tests.{eqb-true, eqb-false}
 use Rattle.basics.proofs.Bools.{by-test}
-use Rattle.basics.specs.Lists.{keep, foldFrom}
+use Rattle.basics.specs.Lists.{keep, zipWith, foldFrom, foldAll}
 use Rattle.floats.specs.Rounded.{_⊗_, _⊘_, ofNat, zeroF}
 use Rattle.floats.specs.Tests.{minOf, maxOf}
 use Rattle.geometry.specs.Position.{coords}
 use Rattle.grid_search.specs.Sheet.{largest}
 use Rattle.mesh.specs.declared.BoundingBox.{BoundingBox}
-use Rattle.mesh.specs.Mesh.{Mesh, Box, cellCount, boxOf, boxed, joinedBox, foldPoints, least, greatest, longestSide}
+use Rattle.mesh.specs.Mesh.{Mesh, Box, cellCount, boxOf, boxed, joinedBox, least, greatest, longestSide}
 use Rattle.cell_sizes.specs.declared.Settings.{Settings}
 use Rattle.cell_sizes.specs.declared.Extent.{Extent}
 use Rattle.cell_sizes.specs.declared.Census.{Census}
-use Rattle.cell_sizes.specs.Large.{boxes, longestOf, isLarge, numbered, measure}
+use Rattle.cell_sizes.specs.Large.{boxes, longestOf, isLarge, numbered, largeOf, measure}
 use Rattle.cell_sizes.specs.Steps.{Widened, Around, counted, Counted, Sized}
 use Rattle.cell_sizes.proofs.Boxes.{length-boxes, boxes-next, boxes-end}
 
@@ -35,8 +35,8 @@ highs bs = map (λ (b : Box). b .high) bs
 
 -- what is known once the boxes before number c are passed
 pub record Passed (n : ℕ) (m : Mesh) (c : ℕ) (e : Extent) : Type 0 where
-  pub low : least (map (λ (b : Box). b .low) (boxes n m)) ≡ foldPoints minOf (coords n (e .limits .low)) (map (λ (b : Box). b .low) (drop c (boxes n m)))
-  pub high : greatest (map (λ (b : Box). b .high) (boxes n m)) ≡ foldPoints maxOf (coords n (e .limits .high)) (map (λ (b : Box). b .high) (drop c (boxes n m)))
+  pub low : least (map (λ (b : Box). b .low) (boxes n m)) ≡ foldFrom (zipWith minOf) (coords n (e .limits .low)) (map (λ (b : Box). b .low) (drop c (boxes n m)))
+  pub high : greatest (map (λ (b : Box). b .high) (boxes n m)) ≡ foldFrom (zipWith maxOf) (coords n (e .limits .high)) (map (λ (b : Box). b .high) (drop c (boxes n m)))
   pub largest : longestOf (boxes n m) ≡ foldFrom maxOf (e .largest) (map longestSide (drop c (boxes n m)))
 
 module _ (n : ℕ) (m : Mesh) where
@@ -51,7 +51,7 @@ module _ (n : ℕ) (m : Mesh) where
       }
 
   pub extent-next : (c : ℕ) (e r : Extent) (b : BoundingBox) → c < cellCount n m → Passed n m c e → boxed n b ≡ boxOf n m c → Widened n e b r → Passed n m (c + 1) r
-  unfolding foldPoints foldFrom joinedBox
+  unfolding foldFrom joinedBox
   extent-next c e r b h p f w =
       let g : drop c (boxes n m) ≡ boxed n b ∷ drop (c + 1) (boxes n m) = boxes-next n m c h ∙ rw f in
       record {
@@ -61,7 +61,7 @@ module _ (n : ℕ) (m : Mesh) where
       }
 
   pub extent-end : (c : ℕ) (e : Extent) → cellCount n m ≤ c → Passed n m c e → Around n m e
-  unfolding foldPoints foldFrom
+  unfolding foldFrom
   extent-end c e h p = record {
     low = sym (p .low ∙ rw (boxes-end n m c h));
     high = sym (p .high ∙ rw (boxes-end n m c h));
@@ -184,7 +184,7 @@ module _ (n : ℕ) (m : Mesh) (t : Settings) where
   measured-apart = refl
 
   measured-large : measure n m t .large ≡ cond (measure n m t .apart) (numbered (isLarge (measure n m t .limit)) 0 (boxes n m)) []
-  unfolding measure
+  unfolding measure largeOf
   measured-large = refl
 
   measured-longest : measure n m t .longest ≡ cond (measure n m t .apart) (longestOf (keep (isSmall (measure n m t .limit)) (boxes n m))) (longestOf (boxes n m))

@@ -31,6 +31,11 @@ unfoldable pub numbered : (Box → Bool) → ℕ → List Box → List ℕ
 numbered p i [] = []
 numbered p i (b ∷ bs) = let rest = numbered p (suc i) bs in cond (p b) (i ∷ rest) rest
 
+-- the large cells, where they are kept apart
+unfoldable pub largeOf : Bool → Float → List Box → List ℕ
+unfolding numbered isLarge
+largeOf apart limit bs = cond apart (numbered (isLarge limit) 0 bs) []
+
 -- what is known of a mesh's cells once they are measured
 pub record Measured : Type 0 where
   -- the bounding boxes of all cells
@@ -43,17 +48,16 @@ pub record Measured : Type 0 where
   pub longest : Float
 
 unfoldable pub measure : ℕ → Mesh → Settings → Measured
-unfolding boxes longestOf isLarge numbered keep le
+unfolding boxes longestOf isLarge numbered largeOf keep le
 measure n m t =
     let bs = boxes n m in
     let limit = t .«large_cutoff» ⊗ longestOf bs in
-    let large = numbered (isLarge limit) 0 bs in
-    let apart = le (ofNat (length large) ⊘ ofNat (length bs)) (t .«large_pct») in
+    let apart = le (ofNat (length (numbered (isLarge limit) 0 bs)) ⊘ ofNat (length bs)) (t .«large_pct») in
     record {
       all-boxes = bs;
       limit = limit;
       apart = apart;
-      large = cond apart large [];
+      large = largeOf apart limit bs;
       longest = cond apart (longestOf (keep (λ (b : Box). not (isLarge limit b)) bs)) (longestOf bs);
     }
 

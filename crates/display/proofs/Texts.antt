@@ -17,7 +17,7 @@ use Rattle.sorting.specs.Sorted.{distinct}
 use Rattle.sorting.specs.Posts.{within, Selected}
 use Rattle.sorting.proofs.Mixes.{getD-map}
 use Rattle.text.specs.Text.{ascii, decimal, listText}
-use Rattle.display.specs.Display.{keysIn, idsIn, line, linesOf, named, summary, slotsText, refusal}
+use Rattle.display.specs.Display.{keysIn, idsIn, line, linesOf, named, summary, slotsText}
 use Rattle.display.specs.Posts.{Numbered, Picked}
 use Rattle.display.proofs.Runs.{slots-ids}
 
@@ -28,10 +28,6 @@ line-length k ids = simp length-append (omega arith)
 pub named-length : (name text : List ℕ) → length (named name text) ≡ length name + length text + 4
 unfolding named
 named-length name text = simp length-append (omega arith)
-
-pub refusal-length : (n : ℕ) → length (refusal n) ≡ length (decimal n) + 9
-unfolding refusal
-refusal-length n = simp length-append (omega arith)
 
 -- the numbers that the first n of a list of indices name
 module _ (ids order : List ℕ) (n : ℕ) (inside : n ≤ length order) where

@@ -5,7 +5,7 @@ use mathlib.Core.List.{List, [], _∷_, map}
 use lib.Dec.{ltb}
 use lib.ListN.{length, getD, take}
 use Rattle.basics.specs.Refusals.{refuse, fault}
-use Rattle.display.specs.Lent.{Lent, lent}
+use Rattle.basics.specs.Filled.{Filled, fill}
 use Rattle.sorting.specs.Posts.{within, Below}
 use Rattle.sorting.specs.Sorted.{distinct}
 
@@ -28,5 +28,5 @@ abbrev pub Numbered : ℕ → List ℕ → Type 0
 Numbered n order = (i : ℕ) → i < n → getD order i 0 ≡ i
 
 -- 14 where the buffer is shorter than the text, and else the text at its front
-abbrev pub fitted : List ℕ → List ℕ → Lent
-fitted text buffer = lent (fault (refuse 14 (ltb (length buffer) (length text)) ∷ [])) text buffer
+abbrev pub fitted : List ℕ → List ℕ → Filled
+fitted text buffer = fill (fault (refuse 14 (ltb (length buffer) (length text)) ∷ [])) text buffer

@@ -14,16 +14,16 @@ use Rattle.geometry.specs.declared.Zeta.{Zeta}
 abbrev pub zetas : ℕ → Zeta → List Float
 zetas n z = take n (z .0 ∷ z .1 ∷ z .2 ∷ z .3 ∷ [])
 
--- the triangle's: three, and +0 in the fourth place
+-- a triangle's doubled area, `a2` in the Rust text
+unfoldable pub doubledArea : Position → Position → Position → Float
+doubledArea a b c = a .x ⊗ (b .y ⊖ c .y) ⊕ b .x ⊗ (c .y ⊖ a .y) ⊕ c .x ⊗ (a .y ⊖ b .y)
+
+-- the triangle's: three, each with the point in the place of a corner, and +0 in the fourth place
 unfoldable pub triangleCoords : Position → Position → Position → Position → Zeta
+unfolding doubledArea
 triangleCoords a b c p =
-    let a2 = a .x ⊗ (b .y ⊖ c .y) ⊕ b .x ⊗ (c .y ⊖ a .y) ⊕ c .x ⊗ (a .y ⊖ b .y) in
-    record {
-      0 = (p .x ⊗ (b .y ⊖ c .y) ⊕ b .x ⊗ (c .y ⊖ p .y) ⊕ c .x ⊗ (p .y ⊖ b .y)) ⊘ a2;
-      1 = (a .x ⊗ (p .y ⊖ c .y) ⊕ p .x ⊗ (c .y ⊖ a .y) ⊕ c .x ⊗ (a .y ⊖ p .y)) ⊘ a2;
-      2 = (a .x ⊗ (b .y ⊖ p .y) ⊕ b .x ⊗ (p .y ⊖ a .y) ⊕ p .x ⊗ (a .y ⊖ b .y)) ⊘ a2;
-      3 = zeroF;
-    }
+    let a2 = doubledArea a b c in
+    record { 0 = doubledArea p b c ⊘ a2; 1 = doubledArea a p c ⊘ a2; 2 = doubledArea a b p ⊘ a2; 3 = zeroF }
 
 -- the tetrahedron's four
 unfoldable pub tetrahedronCoords : Position → Position → Position → Position → Position → Zeta

@@ -13,7 +13,7 @@ ghost use Rattle.floats.specs.Rounded.{_⊖_, zeroF};
 ghost use Rattle.geometry.specs.Position.{coords, positionOf, axisOf, dimension, coordinate, everyAxis, someAxis};
 ghost use Rattle.geometry.specs.Distances.{less, lineOf, dot as dotOf, pointSquare, pointPoint, tooClose, lineSquare, pointLine};
 ghost use Rattle.geometry.specs.Distances.{measured, pointPointAnswer, pointLineAnswer, pointCircleAnswer, pointCylinderAnswer};
-ghost use Rattle.geometry.specs.Cells.{zetas, triangleCoords, tetrahedronCoords, inside};
+ghost use Rattle.geometry.specs.Cells.{zetas, doubledArea, triangleCoords, tetrahedronCoords, inside};
 
 // A position: three coordinates, of which the third is +0 in 2D.
 pub struct Position {
@@ -362,15 +362,23 @@ pub fn point_cylinder_distance(a: &[f64], b: &[f64], radius: f64, p: &[f64]) -> 
     reduced(line_distance(ndim, pa, pb, pp), radius)
 }
 
-// The three coordinates of xp in the triangle xa, xb, xc.
+// Twice the area of the triangle xa, xb, xc, below zero where they turn clockwise: `a2` in gemlab.
+pub fn doubled_area(xa: Position, xb: Position, xc: Position) -> f64
+    ensures { λ r. ⌜ r ≡ doubledArea xa xb xc ⌝ }
+{
+    xa.x * (xb.y - xc.y) + xb.x * (xc.y - xa.y) + xc.x * (xa.y - xb.y)
+}
+
+// The three coordinates of xp in the triangle xa, xb, xc: with xp in the place of each corner gemlab's text works out the very
+// terms of `a2`.
 pub fn triangle_coords(xa: Position, xb: Position, xc: Position, xp: Position) -> Zeta
     ensures { λ r. ⌜ r ≡ triangleCoords xa xb xc xp ⌝ }
 {
-    let a2 = xa.x * (xb.y - xc.y) + xb.x * (xc.y - xa.y) + xc.x * (xa.y - xb.y);
+    let a2 = doubled_area(xa, xb, xc);
     Zeta(
-        (xp.x * (xb.y - xc.y) + xb.x * (xc.y - xp.y) + xc.x * (xp.y - xb.y)) / a2,
-        (xa.x * (xp.y - xc.y) + xp.x * (xc.y - xa.y) + xc.x * (xa.y - xp.y)) / a2,
-        (xa.x * (xb.y - xp.y) + xb.x * (xp.y - xa.y) + xp.x * (xa.y - xb.y)) / a2,
+        doubled_area(xp, xb, xc) / a2,
+        doubled_area(xa, xp, xc) / a2,
+        doubled_area(xa, xb, xp) / a2,
         0.0,
     )
 }

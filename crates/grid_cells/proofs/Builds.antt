@@ -1,252 +1,206 @@
 -- A build step by step: each way out is what the definition gives.
 -- Assumes nothing.
-use Prim.Native.Nat.{ℕ, _/_, _≤_, _<_}
+use Prim.Native.Nat.{ℕ, _≤_, _<_}
 use native.Mathlib.Omega.{arith}
 use mathlib.Core.Path.{_≡_, refl, sym, ap, _∙_, subst}
-use mathlib.Core.Bool.{Bool, true, false, not}
+use mathlib.Core.Bool.{Bool, true, false, not, _||_}
 use mathlib.Core.Option.{Option, none, some}
-use mathlib.Core.List.{List, [], _++_}
+use mathlib.Core.List.{List, [], _∷_, _++_}
 use lib.Dec.{ltb, eqb}
 use lib.ListN.{length}
 use lib.Ieee.{Float}
-use borrow.Author.Tests.{lt-ltb, le-ltb, eq-eqb, ne-eqb, ltb-false, eqb-true, not-false}
+use borrow.Author.Tests.{ltb-false, eqb-true, eqb-false, not-false}
 use Rattle.basics.proofs.Bools.{by-test, or-left, or-right}
 use Rattle.basics.specs.Lists.{all, any, over}
 use Rattle.basics.specs.Refusals.{Test, fault, code, refused, success, answer}
-use Rattle.basics.proofs.Refusals.{Passed, unrefused, fault-stop, fault-right}
+use Rattle.basics.proofs.Refusals.{Passed, unrefused, fault-stop, fault-right, code-some, code-none}
 use Rattle.geometry.specs.Position.{dimension}
 use Rattle.grid.specs.Divisions.{counts, division}
 use Rattle.grid_search.specs.Sheet.{inOrder}
-use Rattle.mesh.specs.Mesh.{Mesh, Box, cellCount, meshTooLong, Whole}
+use Rattle.mesh.specs.Mesh.{Mesh, Box, pointCount, cellCount, meshTooLong, Whole}
 use Rattle.cell_sizes.specs.declared.Settings.{Settings}
+use Rattle.cell_sizes.specs.declared.Sizes.{Sizes}
+use Rattle.cell_sizes.specs.Large.{boxes, isFiled, largeOf, Measured, measure}
+use Rattle.cell_sizes.specs.Steps.{Sized}
+use Rattle.cell_rows.specs.declared.Keys.the-variants.{Count, TooFar}
+use Rattle.cell_rows.specs.Filing.{fileCells}
+use Rattle.cell_rows.specs.Steps.{tooFar, packedRows, rowsIn, rowCountOr, Fitting, Filed, Keyed}
+use Rattle.cell_rows.proofs.Rows.{rows-count}
 use Rattle.grid_cells.specs.declared.GridCells.{GridCells}
 use Rattle.grid_cells.specs.declared.Built.{Built}
 use Rattle.grid_cells.specs.declared.Built.the-variants.{Index, Refused}
-use Rattle.cell_rows.specs.declared.Keys.the-variants.{Count, TooFar}
-use Rattle.cell_sizes.specs.declared.Sizes.{Sizes}
-use Rattle.cell_sizes.specs.Large.{boxes, isFiled, Measured, measure}
-use Rattle.grid_cells.specs.Build.{lowCorner, highCorner, index, containersOf, Made, make, Lent, lentOf, buildTests, Build, settle, build, built, Gives}
-use Rattle.cell_rows.specs.Filing.{fileCells}
-use Rattle.cell_sizes.specs.Steps.{Sized}
-use Rattle.cell_rows.specs.Steps.{tooFar, packedRows, rowsIn, rowCountOr, Fitting, Filed, largeOf, Divided}
-use Rattle.grid_cells.specs.Steps.{tooMany, listTests, settingTests, cellTests, divisionTests, frameTests, rowTests, withRows, finishOf}
-use Rattle.cell_rows.proofs.Rows.{rows-count}
-use Rattle.grid_cells.proofs.Ways.{Numbered, code-some, code-none, divided}
+use Rattle.grid_cells.specs.Build.{lowCorner, highCorner, index, containersOf, withRows, fileIndex, make, IndexLists, indexLists, listsTooLong, sizeTests, meshTests, settingTests, cellTests, divisionTests, frameTests, rowTests, laterTests, buildTests, Build, settleBuild, build, built, leavesLists}
+use Rattle.grid_cells.specs.Steps.{earlyTests, Measurable, Finishable, finishOf}
+use Rattle.grid_cells.proofs.Ways.{divided, answered-by, refused-by}
 
--- ---- the tests in their parts
+-- ---- the tests before the cells are measured, and what they leave
 
-early : ℕ → Mesh → Lent → List Test
-early n m l = listTests n m (length (l .keys)) (length (l .cells)) (length (l .large))
+module _ (n : ℕ) (m : Mesh) (t : Settings) (l : IndexLists) where
+  abbrev w : Measured
+  w = measure n m t
 
-late : ℕ → Mesh → Settings → Lent → List Test
-late n m t l =
-    let w = measure n m t in
-    rowTests (containersOf (index n w t 0)) (isFiled (w .apart) (w .limit)) (w .all-boxes) (length (fileCells (containersOf (index n w t 0)) (isFiled (w .apart) (w .limit)) 0 (w .all-boxes) [])) (length (w .large)) l
+  -- 17, 12
+  abbrev last : List Test
+  last = rowTests (index n w t) (w .apart) (w .limit) (w .all-boxes) l
 
-tests-are : (n : ℕ) (m : Mesh) (t : Settings) (l : Lent) → buildTests n m t l ≡ early n m l ++ (settingTests (m .coords) t ++ (cellTests (cellCount n m) ++ (frameTests n (measure n m t) t ++ late n m t l)))
-unfolding early late buildTests listTests tooMany settingTests cellTests frameTests divisionTests rowTests tooFar
-tests-are n m t l = refl
+  tests-are : buildTests n m t l ≡ earlyTests n m t l ++ (frameTests n w t ++ last)
+  unfolding buildTests laterTests earlyTests sizeTests meshTests settingTests cellTests
+  tests-are = refl
 
--- what an answer tells
-answered-by : {A : Type 0} (o : Option ℕ) (x a : A) → success x ≡ answer o a → (o ≡ none) × (x ≡ a)
-unfolding answer
-answered-by none x a e = (refl, cc)
-answered-by (some n) x a e = let z : _≡_ {A = ℕ} 0 1 = cc in absurd (omega arith)
+  refuse-with : (r : ℕ) → fault (buildTests n m t l) ≡ some r → leavesLists (Refused r) (l .keys) (l .cells) (l .large) ≡ build n m t l
+  unfolding build settleBuild
+  refuse-with r e = sym (ap (λ (o : Option ℕ). settleBuild o (make n w t) l) e)
 
-refused-by : {A : Type 0} (o : Option ℕ) (r : ℕ) (a : A) → refused r ≡ answer o a → o ≡ some r
-unfolding answer
-refused-by none r a e = let z : _≡_ {A = ℕ} 0 1 = cc in absurd (omega arith)
-refused-by (some n) r a e = cc
+  pub refuse-early : {r : ℕ} → r ≡ code (fault (earlyTests n m t l)) → (r ≡ 0 → ⊥) → leavesLists (Refused r) (l .keys) (l .cells) (l .large) ≡ build n m t l
+  refuse-early {r} e h = refuse-with r (ap fault tests-are ∙ fault-stop (earlyTests n m t l) (frameTests n w t ++ last) r (code-some (fault (earlyTests n m t l)) r e h))
 
-index-axes : (n : ℕ) (w : Measured) (t : Settings) → index n w t 0 .ndim ≡ n
-unfolding index
-index-axes n w t = refl
+  pub early-passed : {r : ℕ} → r ≡ code (fault (earlyTests n m t l)) → r ≡ 0 → fault (earlyTests n m t l) ≡ none
+  unfolding earlyTests sizeTests meshTests settingTests cellTests
+  early-passed e z =
+      code-none (earlyTests n m t l)
+      (λ e. omega arith, (λ e. omega arith, (λ e. omega arith, (λ e. omega arith, (λ e. omega arith, (λ e. omega arith, (λ e. omega arith, (λ e. omega arith, (λ e. omega arith, (λ e. omega arith, tt))))))))))
+      (sym z ∙ e)
 
-framed-divisions : (n : ℕ) (w : Measured) (t : Settings) → fault (frameTests n w t) ≡ none → all division (counts (index n w t 0 .ndim) (index n w t 0 .ndiv)) ≡ true
-unfolding frameTests divisionTests
-framed-divisions n w t e =
-    let p = unrefused (frameTests n w t) e in
-    rw (index-axes n w t) (divided (counts n (index n w t 0 .ndiv)) (or-right (not (inOrder (lowCorner w t) (highCorner w t))) (any (λ (d : ℕ). eqb d 0) (counts n (index n w t 0 .ndiv))) (p .1 .0)) (p .1 .1 .0))
+  module _ (p : fault (earlyTests n m t l) ≡ none) where
+    passes : Passed (earlyTests n m t l)
+    passes = unrefused (earlyTests n m t l) p
 
-finish-is : (n : ℕ) (m : Mesh) (t : Settings) (l : Lent) → fault (buildTests n m t l) ≡ fault (late n m t l) → build n m t l ≡ finishOf (index n (measure n m t) t 0) (measure n m t .apart) (measure n m t .limit) (boxes n m) l
-unfolding build late finishOf largeOf
-finish-is n m t l e = ap (λ (o : Option ℕ). settle o (make n (measure n m t) t) l) e
+    few-cells : (meshTooLong n m || listsTooLong l) ≡ false → cellCount n m ≤ 65536
+    unfolding meshTooLong
+    few-cells e = ltb-false 65536 (cellCount n m) (or-right (ltb 65536 (pointCount n m)) (ltb 65536 (cellCount n m)) (or-left (meshTooLong n m) (listsTooLong l) e))
 
-module _ (n : ℕ) (m : Mesh) (t : Settings) (l : Lent) where
-  refuse-with : (r : ℕ) → fault (buildTests n m t l) ≡ some r → Gives (build n m t l) (Refused r) (l .keys) (l .cells) (l .large)
-  unfolding build settle
-  refuse-with r e = record { answer = sym (ap (λ (o : Option ℕ). settle o (make n (measure n m t) t) l .answer) e); lists = sym (ap (λ (o : Option ℕ). settle o (make n (measure n m t) t) l .lent) e) }
+    pub measurable : Measurable n m l
+    unfolding earlyTests sizeTests meshTests settingTests cellTests
+    measurable =
+        let d = not-false (dimension n) (passes .0) in
+        let q = passes .1 .1 in
+        record {
+          whole = record { axes = d; whole = q .1 .0 };
+          few = few-cells (passes .1 .0);
+          cells = positive (eqb-false (cellCount n m) 0 (q .1 .1 .1 .1 .1 .1 .1 .0));
+          lengths = eqb-true (length (l .cells)) (length (l .keys)) (not-false (eqb (length (l .cells)) (length (l .keys))) (q .0));
+        }
+      where
+        positive : (cellCount n m ≡ 0 → ⊥) → 0 < cellCount n m
+        positive h = omega arith
 
-  -- ---- 1, 24, 13, 19
-  lists-numbered : Numbered (early n m l)
-  unfolding early listTests all
-  lists-numbered = refl
+    after-early : fault (buildTests n m t l) ≡ fault (frameTests n w t ++ last)
+    after-early = ap fault tests-are ∙ fault-right (earlyTests n m t l) (frameTests n w t ++ last) p
 
-  settings-numbered : Numbered (settingTests (m .coords) t)
-  unfolding settingTests all
-  settings-numbered = refl
+    -- ---- 23, 22, 6
+    module _ {f : Built} (e : built f ≡ answer (fault (frameTests n w t)) (index n w t)) where
+      pub refuse-frame : {r : ℕ} → f ≡ Refused r → leavesLists f (l .keys) (l .cells) (l .large) ≡ build n m t l
+      refuse-frame {r} i =
+          let j = refused-by (fault (frameTests n w t)) r (index n w t) (ap built (sym i) ∙ e) in
+          ap (λ (g : Built). leavesLists g (l .keys) (l .cells) (l .large)) i ∙ refuse-with r (after-early ∙ fault-stop (frameTests n w t) last r j)
 
-  module _ (a : ℕ) (ea : a ≡ code (fault (listTests n m (length (l .keys)) (length (l .cells)) (length (l .large))))) where
-    pub refuse-lists : (a ≡ 0 → ⊥) → Gives (build n m t l) (Refused a) (l .keys) (l .cells) (l .large)
-    unfolding early
-    refuse-lists h =
-        refuse-with a
-        (ap fault (tests-are n m t l)
-        ∙ fault-stop (early n m l) (settingTests (m .coords) t ++ (cellTests (cellCount n m) ++ (frameTests n (measure n m t) t ++ late n m t l))) a (code-some (fault (early n m l)) a ea h))
+      module _ {g : GridCells} (i : f ≡ Index g) where
+        framed : (fault (frameTests n w t) ≡ none) × (g ≡ index n w t)
+        framed = answered-by (fault (frameTests n w t)) g (index n w t) (ap built (sym i) ∙ e)
 
-    module _ (za : a ≡ 0) where
-      lists-pass : fault (early n m l) ≡ none
-      unfolding early
-      lists-pass = code-none (early n m l) a lists-numbered ea za
+        divisions : fault (frameTests n w t) ≡ none → all division (counts n (index n w t .ndiv)) ≡ true
+        unfolding frameTests divisionTests
+        divisions k =
+            let p = unrefused (frameTests n w t) k in
+            let ns = counts n (index n w t .ndiv) in
+            divided ns (or-right (not (inOrder (lowCorner w t) (highCorner w t))) (any (λ (d : ℕ). eqb d 0) ns) (p .1 .0)) (p .1 .1 .0)
 
-      after-lists : fault (buildTests n m t l) ≡ fault (settingTests (m .coords) t ++ (cellTests (cellCount n m) ++ (frameTests n (measure n m t) t ++ late n m t l)))
-      after-lists = ap fault (tests-are n m t l) ∙ fault-right (early n m l) (settingTests (m .coords) t ++ (cellTests (cellCount n m) ++ (frameTests n (measure n m t) t ++ late n m t l))) lists-pass
+        index-keyed : Keyed (containersOf (index n w t))
+        unfolding index
+        index-keyed = record { axes = measurable .whole .axes; divisions = divisions (framed .0) }
 
-      passes : Passed (listTests n m (length (l .keys)) (length (l .cells)) (length (l .large)))
-      unfolding early
-      passes = unrefused (early n m l) lists-pass
+        -- ---- 17, 12
+        module _ {sizes : Sizes} (s : Sized n m t sizes) where
+          large-is : w .large ≡ largeOf (w .apart) (w .limit) (boxes n m)
+          unfolding measure
+          large-is = refl
 
-      pub pass-dimension : dimension n ≡ true
-      unfolding listTests
-      pass-dimension = not-false (dimension n) (passes .0)
+          at-index : Finishable (index n w t) sizes m (cellCount n m) l
+          unfolding index
+          at-index = record {
+            keyed = index-keyed;
+            whole = measurable .whole;
+            count = refl;
+            few = measurable .few;
+            lengths = measurable .lengths;
+            large = s .large ∙ rw (large-is, s .apart, s .limit);
+          }
 
-      pub pass-whole : Whole n m
-      unfolding listTests
-      pass-whole = record { axes = pass-dimension; whole = passes .1 .1 .1 .0 }
+          pub finishable : Finishable g sizes m (cellCount n m) l
+          finishable = subst (λ (x : GridCells). Finishable x sizes m (cellCount n m) l) (sym (framed .1)) at-index
 
-      pub pass-cells : cellCount n m ≤ 65536
-      unfolding listTests meshTooLong
-      pass-cells = ltb-false 65536 (cellCount n m) (or-right (ltb 65536 (length (m .coords) / n)) (ltb 65536 (cellCount n m)) (or-left (meshTooLong n m) (tooMany (length (l .keys)) (length (l .cells)) (length (l .large))) (passes .1 .0)))
+          boxes-are : w .all-boxes ≡ boxes (index n w t .ndim) m
+          unfolding measure index
+          boxes-are = refl
 
-      pub pass-rows : length (l .cells) ≡ length (l .keys)
-      unfolding listTests
-      pass-rows = eqb-true (length (l .cells)) (length (l .keys)) (not-false (eqb (length (l .cells)) (length (l .keys))) (passes .1 .1 .0))
+          finish-is : finishOf (index n w t) (w .apart) (w .limit) (w .all-boxes) l ≡ build n m t l
+          unfolding finishOf build make
+          finish-is = ap (λ (o : Option ℕ). settleBuild o (make n w t) l) (sym (after-early ∙ fault-right (frameTests n w t) last (framed .0)))
 
-      -- ---- 3, 8, 9, 20, 21
-      module _ (b : ℕ) (eb : b ≡ code (fault (settingTests (m .coords) t))) where
-        pub refuse-settings : (b ≡ 0 → ⊥) → Gives (build n m t l) (Refused b) (l .keys) (l .cells) (l .large)
-        refuse-settings h = refuse-with b (after-lists ∙ fault-stop (settingTests (m .coords) t) (cellTests (cellCount n m) ++ (frameTests n (measure n m t) t ++ late n m t l)) b (code-some (fault (settingTests (m .coords) t)) b eb h))
+          pub finish-with : finishOf g (sizes .apart) (sizes .limit) (boxes (g .ndim) m) l ≡ build n m t l
+          finish-with = rw (framed .1, s .apart, s .limit, ← boxes-are) finish-is
 
-        module _ (zb : b ≡ 0) where
-          after-settings : fault (buildTests n m t l) ≡ fault (cellTests (cellCount n m) ++ (frameTests n (measure n m t) t ++ late n m t l))
-          after-settings = after-lists ∙ fault-right (settingTests (m .coords) t) (cellTests (cellCount n m) ++ (frameTests n (measure n m t) t ++ late n m t l)) (code-none (settingTests (m .coords) t) b settings-numbered eb zb)
+-- ---- the last step: 17, 12, and the rows and large cells written
 
-          -- ---- 18
-          module _ (c : ℕ) (ec : c ≡ cellCount n m) where
-            no-cells : c ≡ 0 → fault (cellTests (cellCount n m)) ≡ some 18
-            unfolding cellTests fault
-            no-cells h = rw (eq-eqb (cellCount n m) 0 (sym ec ∙ h))
+module _ (g : GridCells) (apart : Bool) (limit : Float) (bs : List Box) (l : IndexLists) (few : length bs ≤ 65536) where
+  abbrev filed : Box → Bool
+  filed = isFiled apart limit
 
-            some-cells : (c ≡ 0 → ⊥) → fault (cellTests (cellCount n m)) ≡ none
-            unfolding cellTests fault
-            some-cells h = rw (ne-eqb (cellCount n m) 0 (λ e. h (ec ∙ e)))
+  tests : List Test
+  tests = rowTests g apart limit bs l
 
-            pub refuse-cells : c ≡ 0 → Gives (build n m t l) (Refused 18) (l .keys) (l .cells) (l .large)
-            refuse-cells h = refuse-with 18 (after-settings ∙ fault-stop (cellTests (cellCount n m)) (frameTests n (measure n m t) t ++ late n m t l) 18 (no-cells h))
+  settle-with : (o : Option ℕ) → fault tests ≡ o → settleBuild o (fileIndex g apart limit bs) l ≡ finishOf g apart limit bs l
+  unfolding finishOf tests
+  settle-with o e = ap (λ (o : Option ℕ). settleBuild o (fileIndex g apart limit bs) l) (sym e)
 
-            module _ (hc : c ≡ 0 → ⊥) where
-              after-cells : fault (buildTests n m t l) ≡ fault (frameTests n (measure n m t) t ++ late n m t l)
-              after-cells = after-settings ∙ fault-right (cellTests (cellCount n m)) (frameTests n (measure n m t) t ++ late n m t l) (some-cells hc)
+  refuse-last : (r : ℕ) → fault tests ≡ some r → leavesLists (Refused r) (l .keys) (l .cells) (l .large) ≡ finishOf g apart limit bs l
+  unfolding settleBuild
+  refuse-last r e = settle-with (some r) e
 
-              -- ---- 23, 22, 6
-              module _ (f : Built) (ef : built f ≡ answer (fault (frameTests n (measure n m t) t)) (index n (measure n m t) t 0)) where
-                pub refuse-frame : (r : ℕ) → f ≡ Refused r → Gives (build n m t l) (Refused r) (l .keys) (l .cells) (l .large)
-                refuse-frame r e =
-                    refuse-with r
-                    (after-cells ∙ fault-stop (frameTests n (measure n m t) t) (late n m t l) r (refused-by (fault (frameTests n (measure n m t) t)) r (index n (measure n m t) t 0) (ap built (sym e) ∙ ef)))
+  pub finish-far : rowsIn TooFar ≡ rowCountOr (containersOf g) filed bs → leavesLists (Refused 17) (l .keys) (l .cells) (l .large) ≡ finishOf g apart limit bs l
+  unfolding tests rowTests fault rowCountOr tooFar
+  finish-far e = by-test (any (tooFar (containersOf g) filed) bs) (λ t. refuse-last 17 (rw t)) (λ t. absurd (no (rw t at e)))
+    where
+      no : none ≡ some (length (packedRows (containersOf g) filed 0 bs)) → ⊥
+      no f = let z : _≡_ {A = ℕ} 0 1 = cc in omega arith
 
-                module _ (g : GridCells) (e : f ≡ Index g) where
-                  framed : (fault (frameTests n (measure n m t) t) ≡ none) × (g ≡ index n (measure n m t) t 0)
-                  framed = answered-by (fault (frameTests n (measure n m t) t)) g (index n (measure n m t) t 0) (ap built (sym e) ∙ ef)
-
-                  pub frame-axes : g .ndim ≡ n
-                  unfolding index
-                  frame-axes = ap (λ (x : GridCells). x .ndim) (framed .1)
-
-                  pub frame-divided : Divided (containersOf g)
-                  frame-divided = record { axes = rw frame-axes pass-dimension; divisions = ap (λ (x : GridCells). all division (counts (x .ndim) (x .ndiv))) (framed .1) ∙ framed-divisions n (measure n m t) t (framed .0) }
-
-                  pub finish-with : (sizes : Sizes) → Sized n m t sizes → (r : Built) (keys cells large : List ℕ) → Gives (finishOf g (sizes .apart) (sizes .limit) (boxes (g .ndim) m) l) r keys cells large → Gives (build n m t l) r keys cells large
-                  finish-with sizes s r keys cells large x =
-                      let y : build n m t l ≡ finishOf g (sizes .apart) (sizes .limit) (boxes (g .ndim) m) l =
-                      finish-is n m t l (after-cells ∙ fault-right (frameTests n (measure n m t) t) (late n m t l) (framed .0))
-                      ∙ sym (rw (s .apart, s .limit, framed .1, index-axes n (measure n m t) t)) in
-                      subst (λ (w : Build). Gives w r keys cells large) (sym y) x
-
--- ---- 17, 12, and the rows and large cells written
-
-module _ (g : GridCells) (apart : Bool) (limit : Float) (bs : List Box) (l : Lent) (few : length bs ≤ 65536) where
-  last-tests : List Test
-  last-tests = rowTests (containersOf g) (isFiled apart limit) bs (length (fileCells (containersOf g) (isFiled apart limit) 0 bs [])) (length (largeOf apart limit bs)) l
-
-  refuse-last : (r : ℕ) → fault last-tests ≡ some r → Gives (finishOf g apart limit bs l) (Refused r) (l .keys) (l .cells) (l .large)
-  unfolding finishOf settle last-tests
-  refuse-last r e = record {
-    answer = sym (ap (λ (o : Option ℕ). settle o (record { grid = withRows g (length (fileCells (containersOf g) (isFiled apart limit) 0 bs [])); rows = fileCells (containersOf g) (isFiled apart limit) 0 bs []; large = largeOf apart limit bs }) l .answer) e);
-    lists = sym (ap (λ (o : Option ℕ). settle o (record { grid = withRows g (length (fileCells (containersOf g) (isFiled apart limit) 0 bs [])); rows = fileCells (containersOf g) (isFiled apart limit) 0 bs []; large = largeOf apart limit bs }) l .lent) e);
-  }
-
-  is-far : rowsIn TooFar ≡ rowCountOr (containersOf g) (isFiled apart limit) bs → any (tooFar (containersOf g) (isFiled apart limit)) bs ≡ true
-  unfolding rowCountOr
-  is-far e = by-test (any (tooFar (containersOf g) (isFiled apart limit)) bs) (λ t. t) (λ t. let f : _≡_ {A = Option ℕ} none (some (length (packedRows (containersOf g) (isFiled apart limit) 0 bs))) = rw t at e in let z : _≡_ {A = ℕ} 0 1 = cc in absurd (omega arith))
-
-  far-fault : any (tooFar (containersOf g) (isFiled apart limit)) bs ≡ true → fault last-tests ≡ some 17
-  unfolding last-tests rowTests fault
-  far-fault t = rw t
-
-  pub finish-far : rowsIn TooFar ≡ rowCountOr (containersOf g) (isFiled apart limit) bs → Gives (finishOf g apart limit bs l) (Refused 17) (l .keys) (l .cells) (l .large)
-  finish-far e = refuse-last 17 (far-fault (is-far e))
-
-  module _ (k : ℕ) (e : rowsIn (Count k) ≡ rowCountOr (containersOf g) (isFiled apart limit) bs) where
-    counted : (any (tooFar (containersOf g) (isFiled apart limit)) bs ≡ false) × (k ≡ length (packedRows (containersOf g) (isFiled apart limit) 0 bs))
+  module _ {k : ℕ} (e : rowsIn (Count k) ≡ rowCountOr (containersOf g) filed bs) {size : ℕ} (z : size ≡ length (largeOf apart limit bs)) where
+    counted : (any (tooFar (containersOf g) filed) bs ≡ false) × (k ≡ length (packedRows (containersOf g) filed 0 bs))
     unfolding rowCountOr
-    counted = by-test (any (tooFar (containersOf g) (isFiled apart limit)) bs) (λ t. absurd (no (rw t at e))) (λ t. (t, same (rw t at e)))
+    counted = by-test (any (tooFar (containersOf g) filed) bs) (λ t. absurd (no (rw t at e))) (λ t. (t, same (rw t at e)))
       where
         no : some k ≡ none → ⊥
         no f = let z : _≡_ {A = ℕ} 0 1 = cc in omega arith
 
-        same : some k ≡ some (length (packedRows (containersOf g) (isFiled apart limit) 0 bs)) → k ≡ length (packedRows (containersOf g) (isFiled apart limit) 0 bs)
+        same : some k ≡ some (length (packedRows (containersOf g) filed 0 bs)) → k ≡ length (packedRows (containersOf g) filed 0 bs)
         same f = cc
 
-    count-is : k ≡ length (fileCells (containersOf g) (isFiled apart limit) 0 bs [])
-    count-is = counted .1 ∙ rows-count (containersOf g) (isFiled apart limit) bs few
+    count-is : k ≡ length (fileCells (containersOf g) filed 0 bs [])
+    count-is = counted .1 ∙ rows-count (containersOf g) filed bs few
 
-    rows-fault : length (l .keys) < k → fault last-tests ≡ some 12
-    unfolding last-tests rowTests fault
-    rows-fault h = rw (counted .0, ← count-is, lt-ltb (length (l .keys)) k h)
+    abbrev full : Bool
+    full = ltb (length (l .keys)) k || ltb (length (l .large)) size
 
-    pub finish-rows : length (l .keys) < k → Gives (finishOf g apart limit bs l) (Refused 12) (l .keys) (l .cells) (l .large)
-    finish-rows h = refuse-last 12 (rows-fault h)
+    by-room : fault tests ≡ fault (record { number = 12; fails = full } ∷ [])
+    unfolding tests rowTests fileIndex tooFar fault
+    by-room = rw (counted .0, ← count-is, ← z)
 
-    module _ (h : k ≤ length (l .keys)) (size : ℕ) (z : size ≡ length (largeOf apart limit bs)) where
-      large-fault : length (l .large) < size → fault last-tests ≡ some 12
-      unfolding last-tests rowTests fault
-      large-fault i = rw (counted .0, ← count-is, le-ltb (length (l .keys)) k h, ← z, lt-ltb (length (l .large)) size i)
+    pub finish-full : full ≡ true → leavesLists (Refused 12) (l .keys) (l .cells) (l .large) ≡ finishOf g apart limit bs l
+    unfolding fault
+    finish-full h = refuse-last 12 (by-room ∙ rw h)
 
-      pub finish-large : length (l .large) < size → Gives (finishOf g apart limit bs l) (Refused 12) (l .keys) (l .cells) (l .large)
-      finish-large i = refuse-last 12 (large-fault i)
+    module _ (h : full ≡ false) where
+      pub finish-fits : Fitting (containersOf g) filed bs (l .keys)
+      finish-fits = record { near = counted .0; room = rw (← counted .1) (ltb-false (length (l .keys)) k (or-left (ltb (length (l .keys)) k) (ltb (length (l .large)) size) h)) }
 
-      no-fault : size ≤ length (l .large) → fault last-tests ≡ none
-      unfolding last-tests rowTests fault
-      no-fault i = rw (counted .0, ← count-is, le-ltb (length (l .keys)) k h, ← z, le-ltb (length (l .large)) size i)
+      pub finish-room : length (largeOf apart limit bs) ≤ length (l .large)
+      finish-room = rw (← z) (ltb-false (length (l .large)) size (or-right (ltb (length (l .keys)) k) (ltb (length (l .large)) size) h))
 
-      pub finish-fits : Fitting (containersOf g) (isFiled apart limit) bs (l .keys)
-      finish-fits = record { near = counted .0; room = rw (← counted .1) h }
+      no-fault : fault tests ≡ none
+      unfolding fault
+      no-fault = by-room ∙ rw h
 
-      pub finish-made : (keys cells large : List ℕ) → size ≤ length (l .large) → Filed (fileCells (containersOf g) (isFiled apart limit) 0 bs []) (l .keys) (l .cells) keys cells → large ≡ over (largeOf apart limit bs) (l .large)
-          → Gives (finishOf g apart limit bs l) (Index (withRows g k)) keys cells large
-      unfolding finishOf settle last-tests
-      finish-made keys cells large i f j =
-          let made : Made = record { grid = withRows g (length (fileCells (containersOf g) (isFiled apart limit) 0 bs [])); rows = fileCells (containersOf g) (isFiled apart limit) 0 bs []; large = largeOf apart limit bs } in
-          record {
-            answer = ap (λ (n : ℕ). success (withRows g n)) count-is ∙ sym (ap (λ (o : Option ℕ). settle o made l .answer) (no-fault i));
-            lists = (λ q. lentOf (f .keys-are q) (f .cells-are q) (j q)) ∙ sym (ap (λ (o : Option ℕ). settle o made l .lent) (no-fault i));
-          }
-
--- how many large cells there are
-large-is : (n : ℕ) (m : Mesh) (t : Settings) → measure n m t .large ≡ largeOf (measure n m t .apart) (measure n m t .limit) (boxes n m)
-unfolding measure largeOf
-large-is n m t = refl
-
-pub sized-large : (n : ℕ) (m : Mesh) (t : Settings) (sizes : Sizes) → Sized n m t sizes → sizes .large ≡ length (largeOf (sizes .apart) (sizes .limit) (boxes n m))
-sized-large n m t sizes s = s .large ∙ rw (large-is n m t, s .apart, s .limit)
+      pub finish-made : {keys cells large : List ℕ} → Filed (fileCells (containersOf g) filed 0 bs []) (l .keys) (l .cells) keys cells → large ≡ over (largeOf apart limit bs) (l .large)
+          → leavesLists (Index (withRows g k)) keys cells large ≡ finishOf g apart limit bs l
+      unfolding settleBuild fileIndex
+      finish-made f j = (λ i. record { answer = success (withRows g (count-is i)); lists = indexLists (f .keys-are i) (f .cells-are i) (j i) }) ∙ settle-with none no-fault

@@ -1,4 +1,3 @@
 -- The words of the contracts of module 10's build: the index that it gives.
 pub mod Build
 pub mod Steps
-pub mod Examples

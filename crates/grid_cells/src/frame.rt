@@ -12,8 +12,7 @@ ghost use Rattle.grid.specs.Divisions.{counts, divisionsOf};
 ghost use Rattle.mesh.specs.Mesh.{Mesh, cellCount};
 ghost use Rattle.cell_sizes.specs.Large.{measure as measureOf};
 ghost use Rattle.cell_sizes.specs.Steps.{Sized};
-ghost use Rattle.grid_cells.specs.Build.{cellDivisions, index, built};
-ghost use Rattle.grid_cells.specs.Steps.{divisionTests, frameTests};
+ghost use Rattle.grid_cells.specs.Build.{cellDivisions, index, divisionTests, frameTests, built};
 use crate::Built;
 use crate::GridCells;
 use cell_sizes::Settings;
@@ -78,13 +77,13 @@ fn divisions_refused(ndim: usize, low: Position, high: Position, ndiv: Divisions
 fn is_nothing_filed(sizes: Sizes, ncell: usize) -> bool
     ensures { λ r. ⌜ r ≡ (sizes .apart && eqb (sizes .large) ncell) ⌝ }
 {
-    sizes.apart && sizes.large == ncell
+    sizes.apart & (sizes.large == ncell)
 }
 
 // The index with no rows yet, or the refusal 23, 22 or 6.
 pub fn frame(ndim: usize, ncell: usize, sizes: Sizes, settings: Settings) -> Built
     requires { ⌜ dimension ndim ≡ true ⌝ }
-    ensures { λ r. ⌜ ((m : Mesh) → Sized ndim m settings sizes → ncell ≡ cellCount ndim m → built r ≡ answer (fault (frameTests ndim (measureOf ndim m settings) settings)) (index ndim (measureOf ndim m settings) settings 0)) ⌝ }
+    ensures { λ r. ⌜ ((m : Mesh) → Sized ndim m settings sizes → ncell ≡ cellCount ndim m → built r ≡ answer (fault (frameTests ndim (measureOf ndim m settings) settings)) (index ndim (measureOf ndim m settings) settings)) ⌝ }
 {
     if is_nothing_filed(sizes, ncell) {
         return Built::Refused(23);

@@ -1,14 +1,11 @@
 // Module 10: an index of the cells of a mesh, to find them by position. From gemlab's `mesh/grid_cells.rs`, for triangles (2D) and
 // tetrahedra (3D), over plain slices: flat coordinates, and 3 or 4 corners per cell.
-ghost use Prim.Native.Nat.{_≤_};
 ghost use mathlib.Core.Path.{_≡_};
-ghost use lib.ListN.{length};
 ghost use Rattle.grid_search.specs.Sheet.{toleranceOf, borderOf};
-ghost use Rattle.mesh.specs.Mesh.{meshOf, cellCount, Whole};
+ghost use Rattle.mesh.specs.Mesh.{meshOf};
 ghost use Rattle.cell_sizes.specs.Large.{boxes};
-ghost use Rattle.cell_rows.specs.Steps.{Divided, largeOf};
-ghost use Rattle.grid_cells.specs.Build.{cutoffOf, percentageOf, settingsOf, containersOf, lentOf, build, Gives};
-ghost use Rattle.grid_cells.specs.Steps.{finishOf};
+ghost use Rattle.grid_cells.specs.Build.{cutoffOf, percentageOf, settingsOf, containersOf, withRows, indexLists, build, leavesLists};
+ghost use Rattle.grid_cells.specs.Steps.{Finishable, finishOf};
 
 mod frame;
 pub mod refusals;
@@ -94,38 +91,20 @@ fn finish(
     cells: &mut [u64],
     large: &mut [u64],
 ) -> Built
-    requires { ⌜ Divided (containersOf grid) ⌝ ∗ ⌜ Whole (grid .ndim) (meshOf (now coords) (now corners)) ⌝ ∗ ⌜ ncell ≡ cellCount (grid .ndim) (meshOf (now coords) (now corners)) ⌝ ∗ ⌜ ncell ≤ 65536 ⌝ ∗ ⌜ (length (now cells) ≡ length (now keys)) × (sizes .large ≡ length (largeOf (sizes .apart) (sizes .limit) (boxes (grid .ndim) (meshOf (now coords) (now corners))))) ⌝ }
-    ensures { λ r. ⌜ Gives (finishOf grid (sizes .apart) (sizes .limit) (boxes (grid .ndim) (meshOf (now (coords .entry)) (now (corners .entry)))) (lentOf (now (keys .entry)) (now (cells .entry)) (now (large .entry)))) r (now (keys .exit)) (now (cells .exit)) (now (large .exit)) ⌝ }
+    requires { ⌜ Finishable grid sizes (meshOf (now coords) (now corners)) ncell (indexLists (now keys) (now cells) (now large)) ⌝ }
+    ensures { λ r. ⌜ leavesLists r (now (keys .exit)) (now (cells .exit)) (now (large .exit))
+        ≡ finishOf grid (sizes .apart) (sizes .limit) (boxes (grid .ndim) (meshOf (now (coords .entry)) (now (corners .entry)))) (indexLists (now (keys .entry)) (now (cells .entry)) (now (large .entry))) ⌝ }
 {
-    let ndiv = grid.ndiv;
-    let xmin = grid.xmin;
-    let xmax = grid.xmax;
-    let at = Containers {
-        ndim: grid.ndim,
-        ndiv,
-        side_length: grid.side_length,
-        xmin,
-    };
+    let at = grid.containers();
     let Keys::Count(used) = cell_rows::count_rows(at, sizes, coords, corners, ncell) else {
         return Built::Refused(17);
     };
-    if used > keys.len() {
-        return Built::Refused(12);
-    }
-    if sizes.large > large.len() {
+    if (used > keys.len()) | (sizes.large > large.len()) {
         return Built::Refused(12);
     }
     cell_rows::file_cells(at, sizes, coords, corners, ncell, keys, cells);
     cell_rows::write_large(grid.ndim, sizes, coords, corners, ncell, large);
-    Built::Index(GridCells {
-        ndim: grid.ndim,
-        ndiv,
-        side_length: grid.side_length,
-        xmin,
-        xmax,
-        used,
-        large: grid.large,
-    })
+    Built::Index(grid.with_rows(used))
 }
 
 // The index of a mesh by settings in force.
@@ -138,27 +117,14 @@ fn build_by(
     cells: &mut [u64],
     large: &mut [u64],
 ) -> Built
-    ensures { λ r. ⌜ Gives (build ndim (meshOf (now (coords .entry)) (now (corners .entry))) settings (lentOf (now (keys .entry)) (now (cells .entry)) (now (large .entry)))) r (now (keys .exit)) (now (cells .exit)) (now (large .exit)) ⌝ }
+    ensures { λ r. ⌜ leavesLists r (now (keys .exit)) (now (cells .exit)) (now (large .exit))
+        ≡ build ndim (meshOf (now (coords .entry)) (now (corners .entry))) settings (indexLists (now (keys .entry)) (now (cells .entry)) (now (large .entry))) ⌝ }
 {
-    let lists = refusals::lists_refused(
-        ndim,
-        coords,
-        corners,
-        keys.len(),
-        cells.len(),
-        large.len(),
-    );
-    if lists != 0 {
-        return Built::Refused(lists);
+    let refused = refusals::refused(ndim, coords, corners, settings, keys, cells, large);
+    if refused != 0 {
+        return Built::Refused(refused);
     }
-    let values = refusals::settings_refused(coords, settings);
-    if values != 0 {
-        return Built::Refused(values);
-    }
-    let ncell = corners.len() / (ndim + 1);
-    if ncell == 0 {
-        return Built::Refused(18);
-    }
+    let ncell = mesh::cell_count(ndim, corners);
     let sizes = cell_sizes::measure(ndim, coords, corners, ncell, settings);
     let framed = frame::frame(ndim, ncell, sizes, settings);
     let Built::Index(grid) = framed else {
@@ -177,6 +143,28 @@ impl GridCells {
     // large cells are kept apart if at most this part of the cells is large, by default
     pub const LARGE_PCT: f64 = 0.2;
 
+    // Where its containers lie.
+    pub fn containers(self) -> Containers
+        ensures { λ r. ⌜ r ≡ containersOf self ⌝ }
+    {
+        let ndiv = self.ndiv;
+        let xmin = self.xmin;
+        Containers {
+            ndim: self.ndim,
+            ndiv,
+            side_length: self.side_length,
+            xmin,
+        }
+    }
+
+    // With so many rows in use.
+    fn with_rows(mut self, used: usize) -> GridCells
+        ensures { λ r. ⌜ r ≡ withRows self used ⌝ }
+    {
+        self.used = used;
+        self
+    }
+
     // The index of a mesh. Rows go to the front of `keys` and `cells`, in strict order of key and cell, and large cells,
     // ascending, to the front of `large`. A refusal leaves the three lists as they are.
     pub fn new(
@@ -191,7 +179,8 @@ impl GridCells {
         cells: &mut [u64],
         large: &mut [u64],
     ) -> Built
-        ensures { λ r. ⌜ Gives (build ndim (meshOf (now (coords .entry)) (now (corners .entry))) (settingsOf tolerance «border_tol» «large_cutoff» «large_pct») (lentOf (now (keys .entry)) (now (cells .entry)) (now (large .entry)))) r (now (keys .exit)) (now (cells .exit)) (now (large .exit)) ⌝ }
+        ensures { λ r. ⌜ leavesLists r (now (keys .exit)) (now (cells .exit)) (now (large .exit))
+            ≡ build ndim (meshOf (now (coords .entry)) (now (corners .entry))) (settingsOf tolerance «border_tol» «large_cutoff» «large_pct») (indexLists (now (keys .entry)) (now (cells .entry)) (now (large .entry))) ⌝ }
     {
         let settings = Settings {
             tolerance: tolerance_in_force(tolerance),

@@ -1,43 +1,39 @@
 // What turns a build away before anything is measured. Each function gives document 01's number, or 0.
 ghost use mathlib.Core.Path.{_≡_};
+ghost use mathlib.Core.Bool.{true, _&&_};
+ghost use mathlib.Core.List.{[], _∷_};
+ghost use Rattle.basics.specs.Lists.{all};
 ghost use Rattle.basics.specs.Refusals.{fault, code};
+ghost use Rattle.floats.specs.Tests.{finite};
+ghost use Rattle.geometry.specs.Position.{coordinate};
 ghost use Rattle.mesh.specs.Mesh.{meshOf};
-ghost use Rattle.grid_cells.specs.Build.{notPart, finiteSettings, pastLimits};
-ghost use Rattle.grid_cells.specs.Steps.{tooMany, listTests, settingTests};
+ghost use Rattle.grid_cells.specs.Build.{indexLists, listsTooLong, sizeTests, notPart, settingsOk, settingTests};
+ghost use Rattle.grid_cells.specs.Steps.{earlyTests};
 use cell_sizes::Settings;
 
 // Whether a list of rows or of large cells has more than 65,536 entries.
-pub fn is_too_long(keys: usize, cells: usize, large: usize) -> bool
-    ensures { λ r. ⌜ r ≡ tooMany keys cells large ⌝ }
+fn is_too_long(keys: &[u64], cells: &[u64], large: &[u64]) -> bool
+    ensures { λ r. ⌜ r ≡ listsTooLong (indexLists (now (keys .entry)) (now (cells .entry)) (now (large .entry))) ⌝ }
 {
-    keys > 65536 || (cells > 65536 || large > 65536)
+    (keys.len() > 65536) | ((cells.len() > 65536) | (large.len() > 65536))
 }
 
-// 1, 24, 13 or 19: the dimension, and the lists by their lengths.
-pub fn lists_refused(
+// 1 or 24: the dimension, and the lists by their lengths.
+pub fn sizes_refused(
     ndim: usize,
     coords: &[f64],
     corners: &[u32],
-    keys: usize,
-    cells: usize,
-    large: usize,
+    keys: &[u64],
+    cells: &[u64],
+    large: &[u64],
 ) -> u64
-    ensures { λ r. ⌜ r ≡ code (fault (listTests ndim (meshOf (now (coords .entry)) (now (corners .entry))) keys cells large)) ⌝ }
+    ensures { λ r. ⌜ r ≡ code (fault (sizeTests ndim (meshOf (now (coords .entry)) (now (corners .entry))) (indexLists (now (keys .entry)) (now (cells .entry)) (now (large .entry))))) ⌝ }
 {
     if !geometry::is_dimension(ndim) {
         return 1;
     }
-    if mesh::is_too_long(ndim, coords, corners) {
+    if mesh::is_too_long(ndim, coords, corners) | is_too_long(keys, cells, large) {
         return 24;
-    }
-    if is_too_long(keys, cells, large) {
-        return 24;
-    }
-    if cells != keys {
-        return 13;
-    }
-    if mesh::is_broken(ndim, coords, corners) {
-        return 19;
     }
     0
 }
@@ -46,37 +42,31 @@ pub fn lists_refused(
 fn is_no_part(v: f64) -> bool
     ensures { λ r. ⌜ r ≡ notPart v ⌝ }
 {
-    v < 0.0 || v > 1.0
+    (v < 0.0) | (v > 1.0)
 }
 
 // Whether every setting is finite.
 fn are_finite(t: Settings) -> bool
-    ensures { λ r. ⌜ r ≡ finiteSettings t ⌝ }
+    ensures { λ r. ⌜ r ≡ all finite (t .tolerance ∷ t .«border_tol» ∷ t .«large_cutoff» ∷ t .«large_pct» ∷ []) ⌝ }
 {
     floats::is_finite(t.tolerance)
-        && (floats::is_finite(t.border_tol)
-            && (floats::is_finite(t.large_cutoff) && floats::is_finite(t.large_pct)))
+        & (floats::is_finite(t.border_tol)
+            & (floats::is_finite(t.large_cutoff) & floats::is_finite(t.large_pct)))
 }
 
-// Whether tolerance or border is above 1,024, or a tolerance above 0 is below 1/1,048,576.
-fn past_limits(t: Settings) -> bool
-    ensures { λ r. ⌜ r ≡ pastLimits t ⌝ }
+// Whether 3 is not the case.
+fn are_values_ok(coords: &[f64], t: Settings) -> bool
+    ensures { λ r. ⌜ r ≡ (all coordinate (now (coords .entry)) && settingsOk t) ⌝ }
 {
-    t.tolerance > 1024.0
-        || (t.border_tol > 1024.0 || (t.tolerance > 0.0 && t.tolerance < 9.5367431640625e-7))
+    geometry::all_coordinates(coords)
+        & (are_finite(t) & !grid_search::past_limits(t.tolerance, t.border_tol))
 }
 
 // 3, 8, 9, 20 or 21: the coordinates and the settings.
-pub fn settings_refused(coords: &[f64], t: Settings) -> u64
+fn settings_refused(coords: &[f64], t: Settings) -> u64
     ensures { λ r. ⌜ r ≡ code (fault (settingTests (now (coords .entry)) t)) ⌝ }
 {
-    if !geometry::all_coordinates(coords) {
-        return 3;
-    }
-    if !are_finite(t) {
-        return 3;
-    }
-    if past_limits(t) {
+    if !are_values_ok(coords, t) {
         return 3;
     }
     if t.tolerance <= 0.0 {
@@ -90,6 +80,38 @@ pub fn settings_refused(coords: &[f64], t: Settings) -> u64
     }
     if is_no_part(t.large_pct) {
         return 21;
+    }
+    0
+}
+
+// 1, 24, 13, 19, 3, 8, 9, 20, 21 or 18.
+pub fn refused(
+    ndim: usize,
+    coords: &[f64],
+    corners: &[u32],
+    settings: Settings,
+    keys: &[u64],
+    cells: &[u64],
+    large: &[u64],
+) -> u64
+    ensures { λ r. ⌜ r ≡ code (fault (earlyTests ndim (meshOf (now (coords .entry)) (now (corners .entry))) settings (indexLists (now (keys .entry)) (now (cells .entry)) (now (large .entry))))) ⌝ }
+{
+    let sizes = sizes_refused(ndim, coords, corners, keys, cells, large);
+    if sizes != 0 {
+        return sizes;
+    }
+    if cells.len() != keys.len() {
+        return 13;
+    }
+    if mesh::is_broken(ndim, coords, corners) {
+        return 19;
+    }
+    let values = settings_refused(coords, settings);
+    if values != 0 {
+        return values;
+    }
+    if mesh::cell_count(ndim, corners) == 0 {
+        return 18;
     }
     0
 }

@@ -18,7 +18,7 @@ use Rattle.geometry.specs.Position.{dimension, coordinate}
 use Rattle.geometry.proofs.Axes.{two-or-three}
 use Rattle.grid.specs.Divisions.{division}
 use Rattle.grid.proofs.Bounds.{first-of, rest-of}
-use Rattle.grid_search.specs.Sheet.{lowered, raised, largest, sideOf, coveredOf, diagonal, outOfLimits}
+use Rattle.grid_search.specs.Sheet.{lowered, raised, largest, sideOf, coveredOf, diagonal, pastLimits, outOfLimits}
 
 -- ---- lists whose entries are at most n in size
 abbrev pub AllUpto : ℕ → List Float → Type 0
@@ -125,7 +125,7 @@ pub record Limited (lo hi : List Float) (tolerance border : Float) : Type 0 wher
   pub border-most : lt (pow2 10) border ≡ false
 
 pub limited : (lo hi : List Float) (tolerance border : Float) → outOfLimits lo hi tolerance border ≡ false → Limited lo hi tolerance border
-unfolding outOfLimits
+unfolding outOfLimits pastLimits
 limited lo hi tolerance border h =
     let a = all coordinate lo in
     let b = all coordinate hi in

@@ -95,12 +95,15 @@ sheetFrom lo hi number tolerance border =
 
 -- ---- what turns settings away: 1 to 10
 
--- 3: a float not finite, a coordinate past its magnitude, tolerance or border above 1,024, a positive tolerance below 1/1,048,576
+-- tolerance or border above 1,024, or a positive tolerance below 1/1,048,576
+unfoldable pub pastLimits : Float → Float → Bool
+unfolding lt
+pastLimits tolerance border = lt (pow2 10) tolerance || (lt (pow2 10) border || (lt zeroF tolerance && lt tolerance (pow2⁻ 20)))
+
+-- 3: a float not finite, a coordinate past its magnitude, tolerance or border past their limits
 unfoldable pub outOfLimits : List Float → List Float → Float → Float → Bool
-unfolding all finite lt
-outOfLimits lo hi tolerance border =
-    not (all coordinate lo && (all coordinate hi && (finite tolerance && finite border)))
-    || (lt (pow2 10) tolerance || (lt (pow2 10) border || (lt zeroF tolerance && lt tolerance (pow2⁻ 20))))
+unfolding all finite pastLimits
+outOfLimits lo hi tolerance border = not (all coordinate lo && (all coordinate hi && (finite tolerance && finite border))) || pastLimits tolerance border
 
 -- 7: the high corner is above the low one on every axis
 unfoldable pub inOrder : List Float → List Float → Bool

@@ -7,7 +7,7 @@ ghost use Rattle.basics.specs.Lists.{all};
 ghost use Rattle.floats.specs.Rounded.{_⊕_, _⊖_, _⊗_, _⊘_, ofNat};
 ghost use Rattle.geometry.specs.Position.{coords, positionOf, dimension};
 ghost use Rattle.grid.specs.Divisions.{counts, division};
-ghost use Rattle.grid_search.specs.Sheet.{numberOf, toleranceOf, borderOf, largest as largestOf, lowered as loweredOf, raised as raisedOf, sideOf, coveredOf, diagonal as diagonalOf, sheetFrom, outOfLimits, inOrder, made, newSheet, samePosition, sameDivisions, sameSheet, sheetOk};
+ghost use Rattle.grid_search.specs.Sheet.{numberOf, toleranceOf, borderOf, largest as largestOf, lowered as loweredOf, raised as raisedOf, sideOf, coveredOf, diagonal as diagonalOf, sheetFrom, pastLimits, outOfLimits, inOrder, made, newSheet, samePosition, sameDivisions, sameSheet, sheetOk};
 use geometry::Position;
 use grid::Divisions;
 
@@ -221,6 +221,13 @@ fn built(
     }
 }
 
+// Whether tolerance or border is above 1,024, or a tolerance above 0 below 1/1,048,576.
+pub fn past_limits(tolerance: f64, border: f64) -> bool
+    ensures { λ r. ⌜ r ≡ pastLimits tolerance border ⌝ }
+{
+    (MOST < tolerance) | ((MOST < border) | ((0.0 < tolerance) & (tolerance < LEAST)))
+}
+
 // 3: a float not finite or past its limit.
 fn out_of_limits(ndim: usize, low: Position, high: Position, tolerance: f64, border: f64) -> bool
     requires { ⌜ dimension ndim ≡ true ⌝ }
@@ -229,8 +236,7 @@ fn out_of_limits(ndim: usize, low: Position, high: Position, tolerance: f64, bor
     let low_ok = geometry::position_ok(ndim, low);
     let high_ok = geometry::position_ok(ndim, high);
     let finite = floats::is_finite(tolerance) & floats::is_finite(border);
-    let small = (0.0 < tolerance) & (tolerance < LEAST);
-    !(low_ok & (high_ok & finite)) | ((MOST < tolerance) | ((MOST < border) | small))
+    !(low_ok & (high_ok & finite)) | past_limits(tolerance, border)
 }
 
 // 7: the high corner is above the low one on every axis.

@@ -22,27 +22,32 @@ use Rattle.mesh.specs.Mesh.{Mesh, pointCount, cellCount, brokenMesh, Who
 whole-parts : (d x n : ℕ) → 0 < d → x < n / d → x * d + d ≤ n
 whole-parts d x n p h = rw (← suc-mul x d) (le-div-iff-mul-le p .0 h)
 
+-- a cell's corners are in the list
+pub corner-in : (n : ℕ) (m : Mesh) (c k : ℕ) → c < cellCount n m → k ≤ n → c * (n + 1) + k < length (m .corners)
+unfolding cellCount
+corner-in n m c k h l = omega (arith, whole-parts (n + 1) c (length (m .corners)) (omega arith) h)
+
+-- the point that a corner names
+pub corner-names : (n : ℕ) (m : Mesh) (c k : ℕ) → k ≤ n → getD (cornersOf n m c) k 0 ≡ getD (m .corners) (c * (n + 1) + k) 0
+unfolding cornersOf
+corner-names n m c k h = getD-tab (n + 1) (λ (k : ℕ). getD (m .corners) (c * (n + 1) + k) 0) k 0 (omega arith)
+
 module _ (n : ℕ) (m : Mesh) (w : Whole n m) where
   all-named : all (λ (p : ℕ). ltb p (pointCount n m)) (m .corners) ≡ true
   unfolding brokenMesh
   all-named =
       not-false _
       (or-right (not (eqb (length (m .corners) % (n + 1)) 0)) _
-      (or-right (not (eqb (length (m .coords) % n) 0)) _ (w .whole)))
-
-  -- a cell's corners are in the list
-  pub corner-in : (c k : ℕ) → c < cellCount n m → k ≤ n → c * (n + 1) + k < length (m .corners)
-  unfolding cellCount
-  corner-in c k h l = omega (arith, whole-parts (n + 1) c (length (m .corners)) (omega arith) h)
+      (or-right (not (eqb (length (m .points) % n) 0)) _ (w .whole)))
 
   -- each names a point
   pub names-point : (i : ℕ) → i < length (m .corners) → getD (m .corners) i 0 < pointCount n m
   names-point i h = ltb-true _ _ (all-at (λ (p : ℕ). ltb p (pointCount n m)) (m .corners) i 0 h all-named)
 
   -- a point's coordinates are in the list
-  pub point-in : (p : ℕ) → p < pointCount n m → p * n + n ≤ length (m .coords)
+  pub point-in : (p : ℕ) → p < pointCount n m → p * n + n ≤ length (m .points)
   unfolding pointCount
-  point-in p h = whole-parts n p (length (m .coords)) (omega (arith, few-axes n (w .axes))) h
+  point-in p h = whole-parts n p (length (m .points)) (omega (arith, few-axes n (w .axes))) h
 
 -- a point's coordinates as a part of the list
 pub point-part : (n : ℕ) (l : List Float) (at : ℕ) → at + n ≤ length l → take n (drop at l) ≡ tab n (λ (i : ℕ). getD l (at + i) nan)
@@ -52,13 +57,13 @@ point-part n l at h =
 
 pub length-point : (n : ℕ) (m : Mesh) (p : ℕ) → length (pointAt n m p) ≡ n
 unfolding pointAt
-length-point n m p = length-tab n (λ (i : ℕ). getD (m .coords) (p * n + i) nan)
+length-point n m p = length-tab n (λ (i : ℕ). getD (m .points) (p * n + i) nan)
 
 pub corners-tab : (n : ℕ) (m : Mesh) (c : ℕ) → cornerPoints n m c ≡ tab (n + 1) (λ (k : ℕ). pointAt n m (getD (m .corners) (c * (n + 1) + k) 0))
 unfolding cornerPoints cornersOf
 corners-tab n m c = map-tab (pointAt n m) (n + 1) (λ (k : ℕ). getD (m .corners) (c * (n + 1) + k) 0)
 
--- corner k of a cell
+-- the position of corner k of a cell
 pub corner-at : (n : ℕ) (m : Mesh) (c k : ℕ) → k ≤ n → getD (cornerPoints n m c) k [] ≡ pointAt n m (getD (m .corners) (c * (n + 1) + k) 0)
 corner-at n m c k h = rw corners-tab (getD-tab (n + 1) (λ (k : ℕ). pointAt n m (getD (m .corners) (c * (n + 1) + k) 0)) k [] (omega arith))
 

@@ -7,25 +7,25 @@ use mathlib.Core.List.{List, [], _∷_, map}
 use lib.Dec.{ltb, eqb}
 use lib.ListN.{length, getD}
 use lib.Ieee.{Float, nan}
-use Rattle.basics.specs.Lists.{all, zipWith, tab}
+use Rattle.basics.specs.Lists.{all, zipWith, tab, foldAll}
 use Rattle.floats.specs.Tests.{minOf, maxOf}
 use Rattle.geometry.specs.declared.Position.{Position}
-use Rattle.geometry.specs.Position.{coords as axes, dimension}
+use Rattle.geometry.specs.Position.{coords, dimension}
 use Rattle.geometry.specs.Distances.{from}
 use Rattle.grid_search.specs.Sheet.{largest}
 use Rattle.mesh.specs.declared.BoundingBox.{BoundingBox}
 
 pub record Mesh : Type 0 where
-  pub coords : List Float
+  pub points : List Float
   pub corners : List ℕ
 
 abbrev pub meshOf : List Float → List ℕ → Mesh
-meshOf coords corners = record { coords = coords; corners = corners }
+meshOf points corners = record { points = points; corners = corners }
 
 -- ---- counts: whole points and whole cells
 
 unfoldable pub pointCount : ℕ → Mesh → ℕ
-pointCount n m = length (m .coords) / n
+pointCount n m = length (m .points) / n
 
 unfoldable pub cellCount : ℕ → Mesh → ℕ
 cellCount n m = length (m .corners) / (n + 1)
@@ -39,7 +39,7 @@ meshTooLong n m = ltb 65536 (pointCount n m) || ltb 65536 (cellCount n m)
 unfoldable pub brokenMesh : ℕ → Mesh → Bool
 unfolding all pointCount
 brokenMesh n m =
-    not (eqb (length (m .coords) % n) 0)
+    not (eqb (length (m .points) % n) 0)
     || (not (eqb (length (m .corners) % (n + 1)) 0) || not (all (λ (p : ℕ). ltb p (pointCount n m)) (m .corners)))
 
 -- neither 1 nor 19
@@ -51,7 +51,7 @@ pub record Whole (n : ℕ) (m : Mesh) : Type 0 where
 
 -- the coordinates of point p
 unfoldable pub pointAt : ℕ → Mesh → ℕ → List Float
-pointAt n m p = tab n (λ (i : ℕ). getD (m .coords) (p * n + i) nan)
+pointAt n m p = tab n (λ (i : ℕ). getD (m .points) (p * n + i) nan)
 
 -- the point numbers of a cell's corners
 unfoldable pub cornersOf : ℕ → Mesh → ℕ → List ℕ
@@ -68,21 +68,13 @@ pub record Box : Type 0 where
   pub low : List Float
   pub high : List Float
 
--- axis by axis, from the first of the points on
-unfoldable pub foldPoints : (Float → Float → Float) → List Float → List (List Float) → List Float
-unfolding zipWith
-foldPoints f p [] = p
-foldPoints f p (q ∷ qs) = foldPoints f (zipWith f p q) qs
-
 unfoldable pub least : List (List Float) → List Float
-unfolding foldPoints minOf
-least [] = []
-least (p ∷ ps) = foldPoints minOf p ps
+unfolding foldAll zipWith minOf
+least ps = foldAll (zipWith minOf) [] ps
 
 unfoldable pub greatest : List (List Float) → List Float
-unfolding foldPoints maxOf
-greatest [] = []
-greatest (p ∷ ps) = foldPoints maxOf p ps
+unfolding foldAll zipWith maxOf
+greatest ps = foldAll (zipWith maxOf) [] ps
 
 unfoldable pub boxOf : ℕ → Mesh → ℕ → Box
 unfolding least greatest cornerPoints
@@ -95,7 +87,7 @@ joinedBox a b = record { low = zipWith minOf (a .low) (b .low); high = zipWith m
 
 -- the box that the code holds, on the axes in use
 abbrev pub boxed : ℕ → BoundingBox → Box
-boxed n b = record { low = axes n (b .low); high = axes n (b .high) }
+boxed n b = record { low = coords n (b .low); high = coords n (b .high) }
 
 -- the largest length of a box
 unfoldable pub longestSide : Box → Float

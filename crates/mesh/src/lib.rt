@@ -11,7 +11,7 @@ ghost use Rattle.floats.specs.Rounded.{zeroF};
 ghost use Rattle.floats.specs.Tests.{minOf, maxOf};
 ghost use Rattle.geometry.specs.Position.{coords as axes, positionOf, dimension};
 ghost use Rattle.geometry.specs.Cells.{zetas, inside};
-ghost use Rattle.mesh.specs.Mesh.{meshOf, cellCount, pointCount, meshTooLong, brokenMesh, Whole, pointAt, cornerPoints, boxOf, boxed, joinedBox, longestSide};
+ghost use Rattle.mesh.specs.Mesh.{meshOf, cellCount, pointCount, meshTooLong, brokenMesh, Whole, pointAt, cornersOf, cornerPoints, boxOf, boxed, joinedBox, longestSide};
 ghost use Rattle.mesh.specs.Cell.{cellZeta};
 use geometry::Position;
 use geometry::Zeta;
@@ -22,12 +22,28 @@ pub struct BoundingBox {
     pub high: Position,
 }
 
+// How many whole points the coordinates hold.
+pub fn point_count(ndim: usize, coords: &[f64]) -> usize
+    requires { ⌜ dimension ndim ≡ true ⌝ }
+    ensures { λ r. ⌜ r ≡ pointCount ndim (meshOf (now (coords .entry)) []) ⌝ }
+{
+    coords.len() / ndim
+}
+
+// How many whole cells the corners hold.
+pub fn cell_count(ndim: usize, corners: &[u32]) -> usize
+    requires { ⌜ dimension ndim ≡ true ⌝ }
+    ensures { λ r. ⌜ r ≡ cellCount ndim (meshOf [] (now (corners .entry))) ⌝ }
+{
+    corners.len() / (ndim + 1)
+}
+
 // Whether the flat lists hold more than 65,536 whole points or cells.
 pub fn is_too_long(ndim: usize, coords: &[f64], corners: &[u32]) -> bool
     requires { ⌜ dimension ndim ≡ true ⌝ }
     ensures { λ r. ⌜ r ≡ meshTooLong ndim (meshOf (now (coords .entry)) (now (corners .entry))) ⌝ }
 {
-    coords.len() / ndim > 65536 || corners.len() / (ndim + 1) > 65536
+    (point_count(ndim, coords) > 65536) | (cell_count(ndim, corners) > 65536)
 }
 
 // The number of a point, as an index.
@@ -62,7 +78,7 @@ pub fn is_broken(ndim: usize, coords: &[f64], corners: &[u32]) -> bool
     if corners.len() % (ndim + 1) != 0 {
         return true;
     }
-    !all_below(corners, coords.len() / ndim)
+    !all_below(corners, point_count(ndim, coords))
 }
 
 // The position of a point.
@@ -74,12 +90,20 @@ pub fn point(ndim: usize, coords: &[f64], p: usize) -> Position
     Position::new(&coords[at..at + ndim])
 }
 
+// The number of the point at corner k of a cell.
+pub fn corner_point(ndim: usize, corners: &[u32], cell: usize, k: usize) -> usize
+    requires { ⌜ dimension ndim ≡ true ⌝ ∗ ⌜ cell < cellCount ndim (meshOf [] (now corners)) ⌝ ∗ ⌜ k ≤ ndim ⌝ }
+    ensures { λ r. ⌜ r ≡ getD (cornersOf ndim (meshOf [] (now (corners .entry))) cell) k 0 ⌝ }
+{
+    number(corners[cell * (ndim + 1) + k])
+}
+
 // The position of corner k of a cell.
 fn corner(ndim: usize, coords: &[f64], corners: &[u32], cell: usize, k: usize) -> Position
     requires { ⌜ Whole ndim (meshOf (now coords) (now corners)) ⌝ ∗ ⌜ cell < cellCount ndim (meshOf (now coords) (now corners)) ⌝ ∗ ⌜ k ≤ ndim ⌝ }
     ensures { λ r. ⌜ axes ndim r ≡ getD (cornerPoints ndim (meshOf (now (coords .entry)) (now (corners .entry))) cell) k [] ⌝ }
 {
-    let p = number(corners[cell * (ndim + 1) + k]);
+    let p = corner_point(ndim, corners, cell, k);
     point(ndim, coords, p)
 }
 

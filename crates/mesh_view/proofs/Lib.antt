@@ -1,3 +1,2 @@
 -- What the proofs of the mesh view share.
 pub mod View
-pub mod Corners

@@ -15,57 +15,44 @@ Inv-loop grid b keys₀ ncorner n₀ c₀ keys n c = (c ≤ ncorner) × Walked g
 abbrev μ-loop : tie.MeasureT-loop
 μ-loop grid b keys₀ ncorner n₀ c₀ keys n c = ncorner - c
 
-corner-count-requires : tie.Need-corner-count-requires Inv-loop μ-loop
-corner-count-requires c κs = search needs
-
 loop-holds : tie.Need-loop-holds Inv-loop μ-loop
-loop-holds c = let s = c .before in (omega arith, walk-start (s .args .grid) (s .args .grid .ndim) (s .args .b) (s .pre .0 .axes) (s .args .keys .now) (s .pre .1))
-
-box-corner-requires : tie.Need-box-corner-requires Inv-loop μ-loop
-box-corner-requires c κs = search needs
-
-container-requires : tie.Need-container-requires Inv-loop μ-loop
-container-requires c κs = search needs
-
-enum-known-key : tie.Need-enum-known-key Inv-loop μ-loop
-enum-known-key c = search needs
+loop-holds c = (omega arith, walk-start (c .before .pre .0 .axes) (c .before .pre .1))
 
 enum-told : tie.Need-enum-told Inv-loop μ-loop
 enum-told c = search needs
 
 returns : tie.Need-returns Inv-loop μ-loop
-returns c = let s = c .before .before .before .before .before .before .before in
-    let l = c .before .before .before .before .before .loop in
+returns c = let l = c .before .before .before .before in
+    let n = l .before .before in
+    let s = n .before in
     let g = s .args .grid in
     let x = c .before .before .before .box-corner in
-    walk-far g (g .ndim) (s .args .b) (s .pre .0 .axes) (l .c) (l .n) (l .keys) (l .inv .1) (x .result) (omega (arith, c .before .before .before .before .before .before .corner-count .ensures, c .before .before .before .before .loop-test .taken)) (x .ensures (g .ndim))
-    (is-far g (coords (g .ndim) (x .result)) (sym (c .before .before .container .ensures) ∙ c .enum-told .given .1))
+    let far = is-far g (coords (g .ndim) (x .result)) (sym (c .before .before .container .ensures) ∙ c .enum-told .given .1) in
+    walk-far (s .pre .0 .axes) (l .before .loop .inv .1) (x .result) (omega (arith, n .corner-count .ensures, l .loop-test .taken)) (x .ensures (g .ndim)) far
 
 join-once-requires : tie.Need-join-once-requires Inv-loop μ-loop
-join-once-requires c κs = let s = c .before .before .before .before .before .before .before .before .before in let l = c .before .before .before .before .before .before .before .loop in (l .inv .1 .size, omega (arith, corners-most (s .args .grid .ndim) (s .pre .0 .axes), c .before .before .before .before .before .before .before .before .corner-count .ensures, l .inv .1 .few, c .before .before .before .before .before .before .loop-test .taken))
-
-add-c : tie.Need-add-c Inv-loop μ-loop
-add-c c = search needs
-
-loop-less : tie.Need-loop-less Inv-loop μ-loop
-loop-less c = search needs
+join-once-requires c κs = let l = c .before .before .before .before .before .before in
+    let n = l .before .before in
+    let s = n .before in
+    let w = l .before .loop .inv .1 in
+    (w .size, omega (arith, corners-most (s .args .grid .ndim) (s .pre .0 .axes), n .corner-count .ensures, w .few, l .loop-test .taken))
 
 loop-again : tie.Need-loop-again Inv-loop μ-loop
-loop-again c = let s = c .before .before .before .before .before .before .before .before .before .before in
-    let l = c .before .before .before .before .before .before .before .before .loop in
+loop-again c = let l = c .before .before .before .before .before .before .before in
+    let n = l .before .before in
+    let s = n .before in
     let g = s .args .grid in
     let x = c .before .before .before .before .before .before .box-corner in
-    let f = is-key g (coords (g .ndim) (x .result)) (sym (c .before .before .before .before .before .container .ensures) ∙ c .before .before .before .key .given .1) in (
-      omega (arith, c .before .before .before .before .before .before .before .loop-test .taken),
-      walk-next g (g .ndim) (s .args .b) (s .pre .0 .axes) (l .c) (l .n) (l .keys) (l .inv .1) (x .result) (c .before .before .before .key .given .0 .0 .0) (c .join-once .result) (c .join-once .last .0)
-          (omega (arith, c .before .before .before .before .before .before .before .before .before .corner-count .ensures, c .before .before .before .before .before .before .before .loop-test .taken)) (x .ensures (g .ndim)) f (rw (f .1) (key-small g (x .result) (s .pre .0) (f .0))) (c .join-once .ensures),
-    )
+    let f = is-key g (coords (g .ndim) (x .result)) (sym (c .before .before .before .before .before .container .ensures) ∙ c .before .before .before .key .given .1) in
+    let w = walk-next (s .pre .0 .axes) (l .before .loop .inv .1) (x .result) (omega (arith, n .corner-count .ensures, l .loop-test .taken)) (x .ensures (g .ndim)) f in
+    (omega arith, w (rw (f .1) (key-small g (x .result) (s .pre .0) (f .0))) (c .join-once .ensures))
 
 returns-2 : tie.Need-returns-2 Inv-loop μ-loop
-returns-2 c = let s = c .before .before .before in
-    let l = c .before .loop in
-    let g = s .args .grid in
-    walk-end g (g .ndim) (s .args .b) (s .pre .0 .axes) (l .c) (l .n) (l .keys) (l .inv .1) (omega (arith, c .before .before .corner-count .ensures, c .loop-test .left)) (omega (arith, corners-most (g .ndim) (s .pre .0 .axes), c .before .before .corner-count .ensures, l .inv .0, l .inv .1 .few))
+returns-2 c = let n = c .before .before in
+    let s = n .before in
+    let w = c .before .loop .inv in
+    let most = corners-most (s .args .grid .ndim) (s .pre .0 .axes) in
+    walk-end (s .pre .0 .axes) (w .1) (omega (arith, n .corner-count .ensures, c .loop-test .left)) (omega (arith, most, n .corner-count .ensures, w .0, w .1 .few))
 
 pub corner-keys-spec : {M : Type 1} → statement M
 corner-keys-spec =
@@ -73,15 +60,15 @@ corner-keys-spec =
     (tie.spec
     Inv-loop
     μ-loop
-    corner-count-requires
+    (λ c κs. search needs)
     loop-holds
-    box-corner-requires
-    container-requires
-    enum-known-key
+    (λ c κs. search needs)
+    (λ c κs. search needs)
+    (λ c. search needs)
     enum-told
     returns
     join-once-requires
-    add-c
-    loop-less
+    (λ c. search needs)
+    (λ c. search needs)
     loop-again
     returns-2)

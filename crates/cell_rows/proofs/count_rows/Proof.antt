@@ -1,14 +1,12 @@
 -- `cell_rows::count_rows` meets its contract. Assumes nothing.
 use Prim.Native.Nat.{_-_}
 use native.Mathlib.Omega.{arith}
-use mathlib.Core.Path.{subst, _≡_, refl}
+use mathlib.Core.Path.{_≡_, refl}
 use lib.ListN.{length}
 use borrow.Author.Needs.{needs}
-use Rattle.cell_rows.specs.Steps.{filedKeysOr, Holds}
-use Rattle.cell_rows.specs.declared.Keys.{Keys}
 use Rattle.cell_rows.proofs.Tallies.{Tallied, tally-start, tally-next, tally-far, tally-end}
 use Rattle.cell_sizes.specs.Large.{isFiled}
-use Rattle.mesh.specs.Mesh.{meshOf, boxed}
+use Rattle.mesh.specs.Mesh.{meshOf}
 use Rattle.cell_rows.proofs.count_rows.Statement.{statement}
 use Rattle.cell_rows.proofs.count_rows.Tie as tie
 
@@ -19,54 +17,35 @@ abbrev μ-loop : tie.MeasureT-loop
 μ-loop grid sizes coords corners ncell ndim keys₀ n₀ cell₀ keys n cell = ncell - cell
 
 loop-holds : tie.Need-loop-holds Inv-loop μ-loop
-loop-holds c = let s = c .before .before in (refl, tally-start (s .args .grid) (isFiled (s .args .sizes .apart) (s .args .sizes .limit)) (s .args .grid .ndim) (meshOf (s .args .coords .now) (s .args .corners .now)))
+loop-holds c = (refl, tally-start)
 
 bounding-box-requires : tie.Need-bounding-box-requires Inv-loop μ-loop
 bounding-box-requires c κs = let s = c .before .before .before .before in (s .pre .1 .0, omega (arith, s .pre .1 .1, c .loop-test .taken))
-
-cell-keys-requires : tie.Need-cell-keys-requires Inv-loop μ-loop
-cell-keys-requires c κs = search needs
-
-enum-known-more : tie.Need-enum-known-more Inv-loop μ-loop
-enum-known-more c = search needs
 
 enum-told : tie.Need-enum-told Inv-loop μ-loop
 enum-told c = search needs
 
 returns : tie.Need-returns Inv-loop μ-loop
 returns c = let s = c .before .before .before .before .before .before .before .before .before in
-    let l = c .before .before .before .before .before .before .loop in
-    let k = c .before .before .cell-keys in
-    let box = boxed (s .args .grid .ndim) (c .before .before .before .before .bounding-box .result) in
-    tally-far (s .args .grid) (isFiled (s .args .sizes .apart) (s .args .sizes .limit)) (s .args .grid .ndim) (meshOf (s .args .coords .now) (s .args .corners .now)) (l .cell) (l .n) (l .inv .1) box (k .last .1 .1 .1 .0) (omega (arith, s .pre .1 .1, c .before .before .before .before .before .loop-test .taken)) (c .before .before .before .before .bounding-box .ensures)
-    (subst (λ (r : Keys). Holds (filedKeysOr (s .args .grid) (isFiled (s .args .sizes .apart) (s .args .sizes .limit)) box) r (k .last .1 .1 .1 .0)) (c .enum-told .given .1) (k .ensures))
+    let l = c .before .before .before .before .before in
+    let b = c .before .before .before .before .bounding-box in
+    tally-far (l .before .loop .inv .1) (omega (arith, s .pre .1 .1, l .loop-test .taken)) (b .ensures) (rw (c .enum-told .given .1) at (c .before .before .cell-keys .ensures))
 
 add-n : tie.Need-add-n Inv-loop μ-loop
 add-n c = let s = c .before .before .before .before .before .before .before .before .before .before in
-    let l = c .before .before .before .before .before .before .before .loop in
-    let k = c .before .before .before .cell-keys in
-    let box = boxed (s .args .grid .ndim) (c .before .before .before .before .before .bounding-box .result) in
-    let h = subst (λ (r : Keys). Holds (filedKeysOr (s .args .grid) (isFiled (s .args .sizes .apart) (s .args .sizes .limit)) box) r (k .last .1 .1 .1 .0)) (c .before .more .given .1) (k .ensures) in
-    omega (arith, h .few, l .inv .1 .few, s .pre .1 .1, c .before .before .before .before .before .before .loop-test .taken)
-
-add-cell : tie.Need-add-cell Inv-loop μ-loop
-add-cell c = search needs
-
-loop-less : tie.Need-loop-less Inv-loop μ-loop
-loop-less c = search needs
+    let l = c .before .before .before .before .before .before in
+    let held = rw (c .before .more .given .1) at (c .before .before .before .cell-keys .ensures) in
+    omega (arith, held .few, l .before .loop .inv .1 .few, s .pre .1 .1, l .loop-test .taken)
 
 loop-again : tie.Need-loop-again Inv-loop μ-loop
 loop-again c = let s = c .before .before .before .before .before .before .before .before .before .before in
-    let l = c .before .before .before .before .before .before .before .loop in
-    let k = c .before .before .before .cell-keys in
-    let box = boxed (s .args .grid .ndim) (c .before .before .before .before .before .bounding-box .result) in
-    let h = subst (λ (r : Keys). Holds (filedKeysOr (s .args .grid) (isFiled (s .args .sizes .apart) (s .args .sizes .limit)) box) r (k .last .1 .1 .1 .0)) (c .before .more .given .1) (k .ensures) in
-    (h .size, tally-next (s .args .grid) (isFiled (s .args .sizes .apart) (s .args .sizes .limit)) (s .args .grid .ndim) (meshOf (s .args .coords .now) (s .args .corners .now)) (l .cell) (l .n) (l .inv .1) box (c .before .more .given .0 .0) (k .last .1 .1 .1 .0) (omega (arith, s .pre .1 .1, c .before .before .before .before .before .before .loop-test .taken)) (c .before .before .before .before .before .bounding-box .ensures) h)
+    let l = c .before .before .before .before .before .before in
+    let b = c .before .before .before .before .before .bounding-box in
+    let held = rw (c .before .more .given .1) at (c .before .before .before .cell-keys .ensures) in
+    (held .size, tally-next (l .before .loop .inv .1) (omega (arith, s .pre .1 .1, l .loop-test .taken)) (b .ensures) held)
 
 returns-2 : tie.Need-returns-2 Inv-loop μ-loop
-returns-2 c = let s = c .before .before .before .before in
-    let l = c .before .loop in
-    tally-end (s .args .grid) (isFiled (s .args .sizes .apart) (s .args .sizes .limit)) (s .args .grid .ndim) (meshOf (s .args .coords .now) (s .args .corners .now)) (l .cell) (l .n) (l .inv .1) (omega (arith, s .pre .1 .1, c .loop-test .left))
+returns-2 c = tally-end (c .before .loop .inv .1) (omega (arith, c .before .before .before .before .pre .1 .1, c .loop-test .left))
 
 pub count-rows-spec : {M : Type 1} → statement M
 count-rows-spec =
@@ -76,12 +55,12 @@ count-rows-spec =
     μ-loop
     loop-holds
     bounding-box-requires
-    cell-keys-requires
-    enum-known-more
+    (λ c κs. search needs)
+    (λ c. search needs)
     enum-told
     returns
     add-n
-    add-cell
-    loop-less
+    (λ c. search needs)
+    (λ c. search needs)
     loop-again
     returns-2)

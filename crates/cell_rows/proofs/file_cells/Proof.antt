@@ -10,29 +10,18 @@ use Rattle.mesh.specs.Mesh.{meshOf}
 use Rattle.cell_rows.proofs.file_cells.Statement.{statement}
 use Rattle.cell_rows.proofs.file_cells.Tie as tie
 
-pack-rows-requires : tie.Need-pack-rows-requires
-pack-rows-requires c κs = search needs
-
-sort-requires : tie.Need-sort-requires
-sort-requires c κs = search needs
-
-unpack-requires : tie.Need-unpack-requires
-unpack-requires c κs = search needs
-
-same-length : tie.Need-same-length
-same-length c = search needs
-
-same-length-2 : tie.Need-same-length-2
-same-length-2 c = search needs
-
 returns : tie.Need-returns
-returns c = let s = c .before .before .before .before .before .before .before .before .before .before .before .before .before .before .before .before .before .before .before in
-    let bs = boxes (s .args .grid .ndim) (meshOf (s .args .coords .now) (s .args .corners .now)) in
-    let few : length bs ≤ 65536 = omega (arith, length-boxes (s .args .grid .ndim) (meshOf (s .args .coords .now) (s .args .corners .now)), s .pre .1 .1 .0, s .pre .1 .1 .1 .0) in
-    filed-rows (s .args .grid) (isFiled (s .args .sizes .apart) (s .args .sizes .limit)) bs few (s .args .keys .now) (s .args .cells .now) (c .before .before .before .before .before .before .before .before .before .before .before .before .before .pack-rows .last .1 .1 .1 .1 .1 .0) (c .before .before .before .before .before .before .before .before .before .before .before .before .before .pack-rows .result) (c .before .before .before .before .before .before .before .before .before .before .before .before .before .pack-rows .ensures)
-    (c .before .before .before .before .before .before .before .before .before .sort .last .0) (c .before .before .before .before .unpack .last .0) (c .before .before .before .before .unpack .last .1 .0) (c .before .before .before .before .before .before .before .before .before .sort .ensures) (c .before .before .before .before .unpack .ensures .0) (c .before .before .before .before .unpack .ensures .1)
+returns c = let u = c .before .before .before .before in
+    let t = u .before .before .before .before .before in
+    let k = t .before .before .before .before in
+    let s = k .before .before .before .before .before .before in
+    let m = meshOf (s .args .coords .now) (s .args .corners .now) in
+    let bs = boxes (s .args .grid .ndim) m in
+    let few : length bs ≤ 65536 = omega (arith, length-boxes (s .args .grid .ndim) m, s .pre .1 .1 .0, s .pre .1 .1 .1 .0) in
+    let filed = isFiled (s .args .sizes .apart) (s .args .sizes .limit) in
+    filed-rows (s .args .grid) filed bs few (k .pack-rows .ensures) (t .sort .ensures) (u .unpack .ensures .0) (u .unpack .ensures .1)
 
 pub file-cells-spec : {M : Type 1} → statement M
 file-cells-spec =
     tie.close
-    (tie.spec pack-rows-requires sort-requires unpack-requires same-length same-length-2 returns)
+    (tie.spec (λ c κs. search needs) (λ c κs. search needs) (λ c κs. search needs) (λ c. search needs) (λ c. search needs) returns)

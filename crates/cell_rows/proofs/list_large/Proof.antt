@@ -4,7 +4,7 @@ use native.Mathlib.Omega.{arith}
 use borrow.Author.Needs.{needs}
 use Rattle.cell_rows.proofs.Tallies.{Marking, marking-start, marking-length, marking-room, marking-next, marking-end}
 use Rattle.cell_sizes.specs.Large.{isLarge}
-use Rattle.mesh.specs.Mesh.{meshOf, boxed}
+use Rattle.mesh.specs.Mesh.{meshOf}
 use Rattle.cell_rows.proofs.list_large.Statement.{statement}
 use Rattle.cell_rows.proofs.list_large.Tie as tie
 
@@ -15,36 +15,24 @@ abbrev μ-loop : tie.MeasureT-loop
 μ-loop ndim sizes coords corners ncell large₀ n₀ cell₀ large n cell = ncell - cell
 
 loop-holds : tie.Need-loop-holds Inv-loop μ-loop
-loop-holds c = let s = c .before .before .before in marking-start (s .args .ndim) (meshOf (s .args .coords .now) (s .args .corners .now)) (isLarge (s .args .sizes .limit)) (s .args .large .now) (s .pre .1 .1)
-
-bounding-box-requires : tie.Need-bounding-box-requires Inv-loop μ-loop
-bounding-box-requires c κs = search needs
+loop-holds c = marking-start (c .before .before .before .pre .1 .1)
 
 note-large-requires : tie.Need-note-large-requires Inv-loop μ-loop
 note-large-requires c κs = let s = c .before .before .before .before .before .before .before in
-    let l = c .before .before .before .loop in
-    (s .pre .0 .axes, marking-room (s .args .ndim) (meshOf (s .args .coords .now) (s .args .corners .now)) (isLarge (s .args .sizes .limit)) (s .args .large .now) (s .pre .1 .1) (l .cell) (l .n) (l .large) (l .inv) (boxed (s .args .ndim) (c .before .bounding-box .result)) (omega (arith, s .pre .1 .0, c .before .before .loop-test .taken)) (c .before .bounding-box .ensures))
-
-add-cell : tie.Need-add-cell Inv-loop μ-loop
-add-cell c = search needs
-
-loop-less : tie.Need-loop-less Inv-loop μ-loop
-loop-less c = search needs
+    let l = c .before .before in
+    (s .pre .0 .axes, marking-room (s .pre .1 .1) (l .before .loop .inv) (omega (arith, s .pre .1 .0, l .loop-test .taken)) (c .before .bounding-box .ensures))
 
 loop-again : tie.Need-loop-again Inv-loop μ-loop
 loop-again c = let s = c .before .before .before .before .before .before .before .before .before .before in
-    let l = c .before .before .before .before .before .before .loop in
-    marking-next (s .args .ndim) (meshOf (s .args .coords .now) (s .args .corners .now)) (isLarge (s .args .sizes .limit)) (s .args .large .now) (s .pre .1 .1) (l .cell) (l .n) (l .large) (l .inv) (boxed (s .args .ndim) (c .before .before .before .before .bounding-box .result)) (omega (arith, s .pre .1 .0, c .before .before .before .before .before .loop-test .taken)) (c .before .before .before .before .bounding-box .ensures) (c .before .before .note-large .result) (c .before .before .note-large .last .1 .1 .1 .1 .0) (c .before .before .note-large .ensures)
+    let l = c .before .before .before .before .before in
+    let b = c .before .before .before .before .bounding-box in
+    marking-next (s .pre .1 .1) (l .before .loop .inv) (omega (arith, s .pre .1 .0, l .loop-test .taken)) (b .ensures) (c .before .before .note-large .ensures)
 
 same-length : tie.Need-same-length Inv-loop μ-loop
-same-length c = let s = c .before .before .before .before .before in
-    let l = c .before .loop in
-    marking-length (s .args .ndim) (meshOf (s .args .coords .now) (s .args .corners .now)) (isLarge (s .args .sizes .limit)) (s .args .large .now) (s .pre .1 .1) (l .cell) (l .n) (l .large) (l .inv)
+same-length c = marking-length (c .before .before .before .before .before .pre .1 .1) (c .before .loop .inv)
 
 returns : tie.Need-returns Inv-loop μ-loop
-returns c = let s = c .before .before .before .before .before in
-    let l = c .before .loop in
-    marking-end (s .args .ndim) (meshOf (s .args .coords .now) (s .args .corners .now)) (isLarge (s .args .sizes .limit)) (s .args .large .now) (s .pre .1 .1) (l .cell) (l .n) (l .large) (l .inv) (omega (arith, s .pre .1 .0, c .loop-test .left))
+returns c = let s = c .before .before .before .before .before in marking-end (s .pre .1 .1) (c .before .loop .inv) (omega (arith, s .pre .1 .0, c .loop-test .left))
 
 pub list-large-spec : {M : Type 1} → statement M
 list-large-spec =
@@ -53,10 +41,10 @@ list-large-spec =
     Inv-loop
     μ-loop
     loop-holds
-    bounding-box-requires
+    (λ c κs. search needs)
     note-large-requires
-    add-cell
-    loop-less
+    (λ c. search needs)
+    (λ c. search needs)
     loop-again
     same-length
     returns)

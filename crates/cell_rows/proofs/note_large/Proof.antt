@@ -5,9 +5,6 @@ use borrow.Author.Needs.{needs}
 use Rattle.cell_rows.proofs.note_large.Statement.{statement}
 use Rattle.cell_rows.proofs.note_large.Tie as tie
 
-is-large-requires : tie.Need-is-large-requires
-is-large-requires c κs = search needs
-
 mul-large : tie.Need-mul-large
 mul-large c = omega (arith, c .before .before .before .pre .1 (sym (c .before .is-large .ensures) ∙ c .if1 .taken))
 
@@ -16,9 +13,6 @@ slice-write-large c = c .before .before .before .pre .1 (sym (c .before .is-larg
 
 add-result : tie.Need-add-result
 add-result c = omega (arith, c .before .before .before .pre .1 (sym (c .before .is-large .ensures) ∙ c .if1 .taken))
-
-same-length : tie.Need-same-length
-same-length c = search needs
 
 returns : tie.Need-returns
 returns c = record { count = rw (sym (c .before .is-large .ensures) ∙ c .if1 .taken); are = rw (sym (c .before .is-large .ensures) ∙ c .if1 .taken) }
@@ -30,10 +24,10 @@ pub note-large-spec : {M : Type 1} → statement M
 note-large-spec =
     tie.close
     (tie.spec
-    is-large-requires
+    (λ c κs. search needs)
     mul-large
     slice-write-large
     add-result
-    same-length
+    (λ c. search needs)
     returns
     returns-2)

@@ -45,12 +45,6 @@ mul-rows c = omega (arith, c .before .before .before .before .before .pre .1 .0,
 slice-write-rows : tie.Need-slice-write-rows Inv-loop μ-loop
 slice-write-rows c = omega (arith, c .before .before .before .before .before .pre .1 .0, c .before .before .loop-test .taken, c .before .before .before .loop .inv .1 .0)
 
-add-i : tie.Need-add-i Inv-loop μ-loop
-add-i c = search needs
-
-loop-less : tie.Need-loop-less Inv-loop μ-loop
-loop-less c = search needs
-
 loop-again : tie.Need-loop-again Inv-loop μ-loop
 loop-again c = let s = c .before .before .before .before .before in
     let l = c .before .before .before .loop in
@@ -85,8 +79,8 @@ pack-cell-spec =
     add-rows
     mul-rows
     slice-write-rows
-    add-i
-    loop-less
+    (λ c. search needs)
+    (λ c. search needs)
     loop-again
     same-length
     returns)

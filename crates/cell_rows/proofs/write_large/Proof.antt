@@ -1,6 +1,6 @@
 -- `cell_rows::write_large` meets its contract. Assumes nothing.
 use borrow.Author.Needs.{needs}
-use Rattle.cell_rows.specs.Steps.{largeOf}
+use Rattle.cell_sizes.specs.Large.{largeOf}
 use Rattle.basics.specs.Lists.{over}
 use Rattle.cell_rows.proofs.write_large.Statement.{statement}
 use Rattle.cell_rows.proofs.write_large.Tie as tie
@@ -8,9 +8,6 @@ use Rattle.cell_rows.proofs.write_large.Tie as tie
 list-large-requires : tie.Need-list-large-requires
 unfolding largeOf
 list-large-requires c κs = let s = c .before .before .before .before .before in (s .pre .0, (s .pre .1 .0, rw (c .before .if1 .taken) at (s .pre .1 .1)))
-
-same-length : tie.Need-same-length
-same-length c = search needs
 
 returns : tie.Need-returns
 unfolding largeOf over
@@ -21,4 +18,4 @@ unfolding largeOf over
 returns-2 c = rw (c .if1 .left)
 
 pub write-large-spec : {M : Type 1} → statement M
-write-large-spec = tie.close (tie.spec list-large-requires same-length returns returns-2)
+write-large-spec = tie.close (tie.spec list-large-requires (λ c. search needs) returns returns-2)

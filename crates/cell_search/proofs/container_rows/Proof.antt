@@ -8,12 +8,12 @@ use Rattle.cell_search.proofs.container_rows.Tie as tie
 
 returns : tie.Need-returns
 returns c =
-    let a = c .before .before .before .before in
-    let o = a .pre .0 in
-    let from = c .before .first-of in
-    let to = c .first-of2 in
-    container-part (a .args .keys .now) (a .args .cells .now) (a .args .used) (a .args .key) (from .result) (to .result) (o .in-ids) (o .order)
-    (from .ensures ∙ lead-lower _ _ _ _ (o .in-keys)) (to .ensures ∙ lead-lower _ _ _ _ (o .in-keys))
+    let s = c .before .before .before .before in
+    let a = s .args in
+    let o = s .pre .0 in
+    container-part (a .keys .now) (a .cells .now) (a .used) (a .key) (o .in-ids) (o .order)
+    (c .before .first-of .ensures ∙ lead-lower _ _ _ _ (o .in-keys))
+    (c .first-of2 .ensures ∙ lead-lower _ _ _ _ (o .in-keys))
 
 pub container-rows-spec : {M : Type 1} → statement M
 container-rows-spec =

@@ -1,24 +1,22 @@
 -- `cell_search::find` meets its contract. Assumes nothing.
-use Rattle.cell_search.specs.Search.{cellRows, largeCells}
-use Rattle.cell_search.specs.Steps.{tried}
-use borrow.Author.Needs.{needs}
-use mathlib.Core.Path.{_∙_}
 use native.Mathlib.Omega.{arith}
+use mathlib.Core.Path.{_∙_}
+use Rattle.cell_index.specs.Index.{cellRows, largeCells}
+use Rattle.cell_search.specs.Search.{candidates}
+use borrow.Author.Needs.{needs}
 use Rattle.cell_search.proofs.find.Statement.{statement}
 use Rattle.cell_search.proofs.find.Tie as tie
 
-container-rows-requires : tie.Need-container-rows-requires
-container-rows-requires c κs = search needs
-
 find-either-requires : tie.Need-find-either-requires
-find-either-requires c κs = let cells = c .before .before .before .before .before .before .before .before .pre .1 .0 .cells in let room = c .before .container-rows .ensures .room in (c .before .before .before .before .before .before .before .before .pre .0, (c .before .before .before .before .before .before .before .before .pre .1 .0 .large, (record { room = omega (arith, cells .room, room); below = λ i h. cells .below i (omega (arith, room)) }, c .before .before .before .before .before .before .before .before .pre .1 .1 .1)))
-
-same-length : tie.Need-same-length
-same-length c = search needs
+find-either-requires c κs = let k = c .before in
+    let s = k .before .before .before .before .before .before .before in
+    let cells = s .pre .0 .cells in
+    let room = k .container-rows .ensures .room in
+    (s .pre .0 .whole, (s .pre .0 .large, (record { room = omega (arith, cells .room, room); below = λ i h. cells .below i (omega (arith, room)) }, s .pre .1 .1)))
 
 returns : tie.Need-returns
-unfolding tried largeCells cellRows
+unfolding candidates largeCells cellRows
 returns c = c .before .before .find-either .ensures ∙ rw (c .before .before .before .before .container-rows .ensures .are)
 
 pub find-spec : {M : Type 1} → statement M
-find-spec = tie.close (tie.spec container-rows-requires find-either-requires same-length returns)
+find-spec = tie.close (tie.spec (λ c κs. search needs) find-either-requires (λ c. search needs) returns)

@@ -5,15 +5,6 @@ use mathlib.Core.Path.{sym, ap₂, _∙_}
 use Rattle.cell_search.proofs.is_beyond.Statement.{statement}
 use Rattle.cell_search.proofs.is_beyond.Tie as tie
 
-axis-requires : tie.Need-axis-requires
-axis-requires c κs = search needs
-
-axis-requires-2 : tie.Need-axis-requires-2
-axis-requires-2 c κs = search needs
-
-axis-requires-3 : tie.Need-axis-requires-3
-axis-requires-3 c κs = search needs
-
 returns : tie.Need-returns
 returns c = rw (sym (ap₂ (λ (a b : Float). lt a b) (c .before .before .axis .ensures) (c .before .axis2 .ensures)) ∙ c .if1 .taken) (c .if1 .taken)
 
@@ -22,4 +13,4 @@ returns-2 c = rw (sym (ap₂ (λ (a b : Float). lt a b) (c .before .before .befo
 
 pub is-beyond-spec : {M : Type 1} → statement M
 is-beyond-spec =
-    tie.close (tie.spec axis-requires axis-requires-2 axis-requires-3 returns returns-2)
+    tie.close (tie.spec (λ c κs. search needs) (λ c κs. search needs) (λ c κs. search needs) returns returns-2)

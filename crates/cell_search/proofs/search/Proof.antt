@@ -1,72 +1,69 @@
--- `cell_search::search` meets its contract. A law for each way out. Assumes nothing.
-use Rattle.cell_rows.proofs.Corners.{is-key, is-far, key-small}
-use Rattle.cell_search.proofs.Answers.{sound-parts, any-points, refuse-lists, pass-dimension, pass-whole, refuse-damage, pass-divided, refuse-position, pass-zeta, refuse-ratio, answered}
-use Rattle.geometry.specs.Position.{coords}
-use Rattle.grid_cells.specs.Build.{containersOf, lentOf}
-use Rattle.mesh.specs.Mesh.{meshOf}
+-- `cell_search::search` meets its contract. Assumes nothing.
+-- A law for each way out.
+use mathlib.Core.Path.{_≡_, sym, ap, _∙_}
+use Rattle.mesh.specs.Mesh.{Mesh, meshOf}
+use Rattle.grid_cells.specs.Build.{IndexLists, indexLists}
+use Rattle.cell_index.proofs.Sound.{usable}
+use Rattle.cell_search.specs.Steps.{asked}
+use Rattle.cell_search.proofs.Answers.{refuse-index, refuse-asked, pass-zeta, pass-key, answered}
 use borrow.Author.Needs.{needs}
-use borrow.Author.Tests.{ltb-true, not-true, not-false}
-use mathlib.Core.Path.{sym, _∙_}
 use Rattle.cell_search.proofs.search.Statement.{statement}
 use Rattle.cell_search.proofs.search.Tie as tie
 
-lists-refused-requires : tie.Need-lists-refused-requires
-lists-refused-requires c κs = search needs
+abbrev start : tie.After-refused → tie.Start
+start c = c .before .before .before .before .before .before .before .before
+
+abbrev mesh : tie.Start → Mesh
+mesh s = meshOf (s .args .coords .now) (s .args .corners .now)
+
+abbrev lists : tie.Start → IndexLists
+lists s = indexLists (s .args .keys .now) (s .args .cells .now) (s .args .large .now)
 
 returns : tie.Need-returns
-returns c = refuse-lists (c .before .before .before .before .before .before .before .before .before .args .grid) (meshOf (c .before .before .before .before .before .before .before .before .before .args .coords .now) (c .before .before .before .before .before .before .before .before .before .args .corners .now)) (lentOf (c .before .before .before .before .before .before .before .before .before .args .keys .now) (c .before .before .before .before .before .before .before .before .before .args .cells .now) (c .before .before .before .before .before .before .before .before .before .args .large .now)) (c .before .before .before .before .before .before .before .before .before .args .zeta .now) (c .before .before .before .before .before .before .before .before .before .args .x .now) (c .before .lists-refused .result) (c .before .lists-refused .ensures) (c .if1 .taken)
+returns c = let s = start (c .before) in refuse-index (s .args .grid) (mesh s) (lists s) (s .args .zeta .now) (s .args .x .now) (c .before .refused .ensures) (c .if1 .taken)
 
-is-sound-requires : tie.Need-is-sound-requires
-is-sound-requires c κs = pass-dimension (c .before .before .before .before .before .before .before .before .before .args .grid) (meshOf (c .before .before .before .before .before .before .before .before .before .args .coords .now) (c .before .before .before .before .before .before .before .before .before .args .corners .now)) (lentOf (c .before .before .before .before .before .before .before .before .before .args .keys .now) (c .before .before .before .before .before .before .before .before .before .args .cells .now) (c .before .before .before .before .before .before .before .before .before .args .large .now)) (c .before .before .before .before .before .before .before .before .before .args .zeta .now) (c .before .before .before .before .before .before .before .before .before .args .x .now) (c .before .lists-refused .result) (c .before .lists-refused .ensures) (c .if1 .left)
-
-returns-2 : tie.Need-returns-2
-returns-2 c = refuse-damage (c .before .before .before .before .before .before .before .before .before .before .before .args .grid) (meshOf (c .before .before .before .before .before .before .before .before .before .before .before .args .coords .now) (c .before .before .before .before .before .before .before .before .before .before .before .args .corners .now)) (lentOf (c .before .before .before .before .before .before .before .before .before .before .before .args .keys .now) (c .before .before .before .before .before .before .before .before .before .before .before .args .cells .now) (c .before .before .before .before .before .before .before .before .before .before .before .args .large .now)) (c .before .before .before .before .before .before .before .before .before .before .before .args .zeta .now) (c .before .before .before .before .before .before .before .before .before .before .before .args .x .now) (c .before .before .before .lists-refused .result) (c .before .before .before .lists-refused .ensures) (c .before .before .if1 .left) (sym (any-points (c .before .before .before .before .before .before .before .before .before .before .before .args .grid) (c .before .before .before .before .before .before .before .before .before .before .before .args .coords .now) (c .before .before .before .before .before .before .before .before .before .before .before .args .corners .now) (lentOf (c .before .before .before .before .before .before .before .before .before .before .before .args .keys .now) (c .before .before .before .before .before .before .before .before .before .before .before .args .cells .now) (c .before .before .before .before .before .before .before .before .before .before .before .args .large .now))) ∙ sym (c .before .is-sound .ensures) ∙ not-true _ (c .if2 .taken))
-
-position-refused-requires : tie.Need-position-refused-requires
-position-refused-requires c κs = pass-dimension (c .before .before .before .before .before .before .before .before .before .before .before .args .grid) (meshOf (c .before .before .before .before .before .before .before .before .before .before .before .args .coords .now) (c .before .before .before .before .before .before .before .before .before .before .before .args .corners .now)) (lentOf (c .before .before .before .before .before .before .before .before .before .before .before .args .keys .now) (c .before .before .before .before .before .before .before .before .before .before .before .args .cells .now) (c .before .before .before .before .before .before .before .before .before .before .before .args .large .now)) (c .before .before .before .before .before .before .before .before .before .before .before .args .zeta .now) (c .before .before .before .before .before .before .before .before .before .before .before .args .x .now) (c .before .before .before .lists-refused .result) (c .before .before .before .lists-refused .ensures) (c .before .before .if1 .left)
-
-returns-3 : tie.Need-returns-3
-returns-3 c = refuse-position (c .before .before .before .before .before .before .before .before .before .before .before .before .before .args .grid) (meshOf (c .before .before .before .before .before .before .before .before .before .before .before .before .before .args .coords .now) (c .before .before .before .before .before .before .before .before .before .before .before .before .before .args .corners .now)) (lentOf (c .before .before .before .before .before .before .before .before .before .before .before .before .before .args .keys .now) (c .before .before .before .before .before .before .before .before .before .before .before .before .before .args .cells .now) (c .before .before .before .before .before .before .before .before .before .before .before .before .before .args .large .now)) (c .before .before .before .before .before .before .before .before .before .before .before .before .before .args .zeta .now) (c .before .before .before .before .before .before .before .before .before .before .before .before .before .args .x .now) (c .before .before .before .before .before .lists-refused .result) (c .before .before .before .before .before .lists-refused .ensures) (c .before .before .before .before .if1 .left) (sym (any-points (c .before .before .before .before .before .before .before .before .before .before .before .before .before .args .grid) (c .before .before .before .before .before .before .before .before .before .before .before .before .before .args .coords .now) (c .before .before .before .before .before .before .before .before .before .before .before .before .before .args .corners .now) (lentOf (c .before .before .before .before .before .before .before .before .before .before .before .before .before .args .keys .now) (c .before .before .before .before .before .before .before .before .before .before .before .before .before .args .cells .now) (c .before .before .before .before .before .before .before .before .before .before .before .before .before .args .large .now))) ∙ sym (c .before .before .before .is-sound .ensures) ∙ not-false _ (c .before .before .if2 .left)) (c .before .position-refused .result) (c .before .position-refused .ensures) (c .if3 .taken)
-
-new-requires : tie.Need-new-requires
-new-requires c κs = search needs
-
-container-requires : tie.Need-container-requires
-container-requires c κs = pass-divided (c .before .before .before .before .before .before .before .before .before .before .before .before .before .before .before .before .args .grid) (meshOf (c .before .before .before .before .before .before .before .before .before .before .before .before .before .before .before .before .args .coords .now) (c .before .before .before .before .before .before .before .before .before .before .before .before .before .before .before .before .args .corners .now)) (lentOf (c .before .before .before .before .before .before .before .before .before .before .before .before .before .before .before .before .args .keys .now) (c .before .before .before .before .before .before .before .before .before .before .before .before .before .before .before .before .args .cells .now) (c .before .before .before .before .before .before .before .before .before .before .before .before .before .before .before .before .args .large .now)) (c .before .before .before .before .before .before .before .before .before .before .before .before .before .before .before .before .args .zeta .now) (c .before .before .before .before .before .before .before .before .before .before .before .before .before .before .before .before .args .x .now) (c .before .before .before .before .before .before .before .before .lists-refused .result) (c .before .before .before .before .before .before .before .before .lists-refused .ensures) (c .before .before .before .before .before .before .before .if1 .left) (sym (any-points (c .before .before .before .before .before .before .before .before .before .before .before .before .before .before .before .before .args .grid) (c .before .before .before .before .before .before .before .before .before .before .before .before .before .before .before .before .args .coords .now) (c .before .before .before .before .before .before .before .before .before .before .before .before .before .before .before .before .args .corners .now) (lentOf (c .before .before .before .before .before .before .before .before .before .before .before .before .before .before .before .before .args .keys .now) (c .before .before .before .before .before .before .before .before .before .before .before .before .before .before .before .before .args .cells .now) (c .before .before .before .before .before .before .before .before .before .before .before .before .before .before .before .before .args .large .now))) ∙ sym (c .before .before .before .before .before .before .is-sound .ensures) ∙ not-false _ (c .before .before .before .before .before .if2 .left))
-
-enum-known-key : tie.Need-enum-known-key
-enum-known-key c = search needs
-
-enum-told : tie.Need-enum-told
-enum-told c = search needs
-
-returns-4 : tie.Need-returns-4
-returns-4 c = refuse-ratio (c .before .before .before .before .before .before .before .before .before .before .before .before .before .before .before .before .before .before .before .args .grid) (meshOf (c .before .before .before .before .before .before .before .before .before .before .before .before .before .before .before .before .before .before .before .args .coords .now) (c .before .before .before .before .before .before .before .before .before .before .before .before .before .before .before .before .before .before .before .args .corners .now)) (lentOf (c .before .before .before .before .before .before .before .before .before .before .before .before .before .before .before .before .before .before .before .args .keys .now) (c .before .before .before .before .before .before .before .before .before .before .before .before .before .before .before .before .before .before .before .args .cells .now) (c .before .before .before .before .before .before .before .before .before .before .before .before .before .before .before .before .before .before .before .args .large .now)) (c .before .before .before .before .before .before .before .before .before .before .before .before .before .before .before .before .before .before .before .args .zeta .now) (c .before .before .before .before .before .before .before .before .before .before .before .before .before .before .before .before .before .before .before .args .x .now) (c .before .before .before .before .before .before .before .before .before .before .before .lists-refused .result) (c .before .before .before .before .before .before .before .before .before .before .before .lists-refused .ensures) (c .before .before .before .before .before .before .before .before .before .before .if1 .left) (sym (any-points (c .before .before .before .before .before .before .before .before .before .before .before .before .before .before .before .before .before .before .before .args .grid) (c .before .before .before .before .before .before .before .before .before .before .before .before .before .before .before .before .before .before .before .args .coords .now) (c .before .before .before .before .before .before .before .before .before .before .before .before .before .before .before .before .before .before .before .args .corners .now) (lentOf (c .before .before .before .before .before .before .before .before .before .before .before .before .before .before .before .before .before .before .before .args .keys .now) (c .before .before .before .before .before .before .before .before .before .before .before .before .before .before .before .before .before .before .before .args .cells .now) (c .before .before .before .before .before .before .before .before .before .before .before .before .before .before .before .before .before .before .before .args .large .now))) ∙ sym (c .before .before .before .before .before .before .before .before .before .is-sound .ensures) ∙ not-false _ (c .before .before .before .before .before .before .before .before .if2 .left)) (c .before .before .before .before .before .before .before .position-refused .result) (c .before .before .before .before .before .before .before .position-refused .ensures) (c .before .before .before .before .before .before .if3 .left) (c .before .before .before .before .before .new .result) (c .before .before .before .before .before .new .ensures) (is-far (containersOf (c .before .before .before .before .before .before .before .before .before .before .before .before .before .before .before .before .before .before .before .args .grid)) (coords (c .before .before .before .before .before .before .before .before .before .before .before .before .before .before .before .before .before .before .before .args .grid .ndim) (c .before .before .before .before .before .new .result)) (sym (c .before .before .container .ensures) ∙ c .enum-told .given .1))
+locate-requires : tie.Need-locate-requires
+locate-requires c κs = let s = start (c .before) in usable (s .args .grid) (mesh s) (lists s) (c .before .refused .ensures) (c .if1 .left) .keyed
 
 find-requires : tie.Need-find-requires
-find-requires c κs = let k = is-key (containersOf (c .before .before .before .before .before .before .before .before .before .before .before .before .before .before .before .before .before .before .before .before .before .args .grid)) (coords (c .before .before .before .before .before .before .before .before .before .before .before .before .before .before .before .before .before .before .before .before .before .args .grid .ndim) (c .before .before .before .before .before .before .before .new .result)) (sym (c .before .before .before .before .container .ensures) ∙ c .before .before .key .given .1) in (pass-whole (c .before .before .before .before .before .before .before .before .before .before .before .before .before .before .before .before .before .before .before .before .before .args .grid) (meshOf (c .before .before .before .before .before .before .before .before .before .before .before .before .before .before .before .before .before .before .before .before .before .args .coords .now) (c .before .before .before .before .before .before .before .before .before .before .before .before .before .before .before .before .before .before .before .before .before .args .corners .now)) (lentOf (c .before .before .before .before .before .before .before .before .before .before .before .before .before .before .before .before .before .before .before .before .before .args .keys .now) (c .before .before .before .before .before .before .before .before .before .before .before .before .before .before .before .before .before .before .before .before .before .args .cells .now) (c .before .before .before .before .before .before .before .before .before .before .before .before .before .before .before .before .before .before .before .before .before .args .large .now)) (c .before .before .before .before .before .before .before .before .before .before .before .before .before .before .before .before .before .before .before .before .before .args .zeta .now) (c .before .before .before .before .before .before .before .before .before .before .before .before .before .before .before .before .before .before .before .before .before .args .x .now) (c .before .before .before .before .before .before .before .before .before .before .before .before .before .lists-refused .result) (c .before .before .before .before .before .before .before .before .before .before .before .before .before .lists-refused .ensures) (c .before .before .before .before .before .before .before .before .before .before .before .before .if1 .left), (sound-parts (c .before .before .before .before .before .before .before .before .before .before .before .before .before .before .before .before .before .before .before .before .before .args .grid) (meshOf (c .before .before .before .before .before .before .before .before .before .before .before .before .before .before .before .before .before .before .before .before .before .args .coords .now) (c .before .before .before .before .before .before .before .before .before .before .before .before .before .before .before .before .before .before .before .before .before .args .corners .now)) (lentOf (c .before .before .before .before .before .before .before .before .before .before .before .before .before .before .before .before .before .before .before .before .before .args .keys .now) (c .before .before .before .before .before .before .before .before .before .before .before .before .before .before .before .before .before .before .before .before .before .args .cells .now) (c .before .before .before .before .before .before .before .before .before .before .before .before .before .before .before .before .before .before .before .before .before .args .large .now)) (sym (any-points (c .before .before .before .before .before .before .before .before .before .before .before .before .before .before .before .before .before .before .before .before .before .args .grid) (c .before .before .before .before .before .before .before .before .before .before .before .before .before .before .before .before .before .before .before .before .before .args .coords .now) (c .before .before .before .before .before .before .before .before .before .before .before .before .before .before .before .before .before .before .before .before .before .args .corners .now) (lentOf (c .before .before .before .before .before .before .before .before .before .before .before .before .before .before .before .before .before .before .before .before .before .args .keys .now) (c .before .before .before .before .before .before .before .before .before .before .before .before .before .before .before .before .before .before .before .before .before .args .cells .now) (c .before .before .before .before .before .before .before .before .before .before .before .before .before .before .before .before .before .before .before .before .before .args .large .now))) ∙ sym (c .before .before .before .before .before .before .before .before .before .before .before .is-sound .ensures) ∙ not-false _ (c .before .before .before .before .before .before .before .before .before .before .if2 .left)), (rw (k .1) (ltb-true _ _ (key-small (containersOf (c .before .before .before .before .before .before .before .before .before .before .before .before .before .before .before .before .before .before .before .before .before .args .grid)) (c .before .before .before .before .before .before .before .new .result) (pass-divided (c .before .before .before .before .before .before .before .before .before .before .before .before .before .before .before .before .before .before .before .before .before .args .grid) (meshOf (c .before .before .before .before .before .before .before .before .before .before .before .before .before .before .before .before .before .before .before .before .before .args .coords .now) (c .before .before .before .before .before .before .before .before .before .before .before .before .before .before .before .before .before .before .before .before .before .args .corners .now)) (lentOf (c .before .before .before .before .before .before .before .before .before .before .before .before .before .before .before .before .before .before .before .before .before .args .keys .now) (c .before .before .before .before .before .before .before .before .before .before .before .before .before .before .before .before .before .before .before .before .before .args .cells .now) (c .before .before .before .before .before .before .before .before .before .before .before .before .before .before .before .before .before .before .before .before .before .args .large .now)) (c .before .before .before .before .before .before .before .before .before .before .before .before .before .before .before .before .before .before .before .before .before .args .zeta .now) (c .before .before .before .before .before .before .before .before .before .before .before .before .before .before .before .before .before .before .before .before .before .args .x .now) (c .before .before .before .before .before .before .before .before .before .before .before .before .before .lists-refused .result) (c .before .before .before .before .before .before .before .before .before .before .before .before .before .lists-refused .ensures) (c .before .before .before .before .before .before .before .before .before .before .before .before .if1 .left) (sym (any-points (c .before .before .before .before .before .before .before .before .before .before .before .before .before .before .before .before .before .before .before .before .before .args .grid) (c .before .before .before .before .before .before .before .before .before .before .before .before .before .before .before .before .before .before .before .before .before .args .coords .now) (c .before .before .before .before .before .before .before .before .before .before .before .before .before .before .before .before .before .before .before .before .before .args .corners .now) (lentOf (c .before .before .before .before .before .before .before .before .before .before .before .before .before .before .before .before .before .before .before .before .before .args .keys .now) (c .before .before .before .before .before .before .before .before .before .before .before .before .before .before .before .before .before .before .before .before .before .args .cells .now) (c .before .before .before .before .before .before .before .before .before .before .before .before .before .before .before .before .before .before .before .before .before .args .large .now))) ∙ sym (c .before .before .before .before .before .before .before .before .before .before .before .is-sound .ensures) ∙ not-false _ (c .before .before .before .before .before .before .before .before .before .before .if2 .left))) (k .0))), pass-zeta (c .before .before .before .before .before .before .before .before .before .before .before .before .before .before .before .before .before .before .before .before .before .args .grid) (meshOf (c .before .before .before .before .before .before .before .before .before .before .before .before .before .before .before .before .before .before .before .before .before .args .coords .now) (c .before .before .before .before .before .before .before .before .before .before .before .before .before .before .before .before .before .before .before .before .before .args .corners .now)) (lentOf (c .before .before .before .before .before .before .before .before .before .before .before .before .before .before .before .before .before .before .before .before .before .args .keys .now) (c .before .before .before .before .before .before .before .before .before .before .before .before .before .before .before .before .before .before .before .before .before .args .cells .now) (c .before .before .before .before .before .before .before .before .before .before .before .before .before .before .before .before .before .before .before .before .before .args .large .now)) (c .before .before .before .before .before .before .before .before .before .before .before .before .before .before .before .before .before .before .before .before .before .args .zeta .now) (c .before .before .before .before .before .before .before .before .before .before .before .before .before .before .before .before .before .before .before .before .before .args .x .now) (c .before .before .before .before .before .before .before .before .before .before .before .before .before .lists-refused .result) (c .before .before .before .before .before .before .before .before .before .before .before .before .before .lists-refused .ensures) (c .before .before .before .before .before .before .before .before .before .before .before .before .if1 .left) (sym (any-points (c .before .before .before .before .before .before .before .before .before .before .before .before .before .before .before .before .before .before .before .before .before .args .grid) (c .before .before .before .before .before .before .before .before .before .before .before .before .before .before .before .before .before .before .before .before .before .args .coords .now) (c .before .before .before .before .before .before .before .before .before .before .before .before .before .before .before .before .before .before .before .before .before .args .corners .now) (lentOf (c .before .before .before .before .before .before .before .before .before .before .before .before .before .before .before .before .before .before .before .before .before .args .keys .now) (c .before .before .before .before .before .before .before .before .before .before .before .before .before .before .before .before .before .before .before .before .before .args .cells .now) (c .before .before .before .before .before .before .before .before .before .before .before .before .before .before .before .before .before .before .before .before .before .args .large .now))) ∙ sym (c .before .before .before .before .before .before .before .before .before .before .before .is-sound .ensures) ∙ not-false _ (c .before .before .before .before .before .before .before .before .before .before .if2 .left)) (c .before .before .before .before .before .before .before .before .before .position-refused .result) (c .before .before .before .before .before .before .before .before .before .position-refused .ensures) (c .before .before .before .before .before .before .before .before .if3 .left))))
+find-requires c κs = let n = c .before in
+    let a = n .before .before in
+    let l = a .before .before in
+    let e = l .before in
+    let s = start (e .before) in
+    let r = e .before .refused .ensures in
+    let key = ap asked (sym (a .at .given .1)) ∙ l .locate .ensures in
+    let small = pass-key (s .args .grid) (mesh s) (lists s) (s .args .zeta .now) (s .args .x .now) r (e .if1 .left) key (n .new .ensures) in
+    (usable (s .args .grid) (mesh s) (lists s) r (e .if1 .left), (small, pass-zeta (s .args .grid) (mesh s) (lists s) (s .args .zeta .now) (s .args .x .now) r (e .if1 .left) key))
 
-same-length : tie.Need-same-length
-same-length c = search needs
+returns-2 : tie.Need-returns-2
+returns-2 c = let f = c .before .before in
+    let n = f .before .before in
+    let a = n .before .before in
+    let l = a .before .before in
+    let e = l .before in
+    let s = start (e .before) in
+    let key = ap asked (sym (a .at .given .1)) ∙ l .locate .ensures in
+    answered (s .args .grid) (mesh s) (lists s) (s .args .zeta .now) (s .args .x .now) (e .before .refused .ensures) (e .if1 .left) key (n .new .ensures) (f .find .result) (f .find .ensures)
 
-returns-5 : tie.Need-returns-5
-returns-5 c = let k = is-key (containersOf (c .before .before .before .before .before .before .before .before .before .before .before .before .before .before .before .before .before .before .before .before .before .before .before .before .args .grid)) (coords (c .before .before .before .before .before .before .before .before .before .before .before .before .before .before .before .before .before .before .before .before .before .before .before .before .args .grid .ndim) (c .before .before .before .before .before .before .before .before .before .before .new .result)) (sym (c .before .before .before .before .before .before .before .container .ensures) ∙ c .before .before .before .before .before .key .given .1) in answered (c .before .before .before .before .before .before .before .before .before .before .before .before .before .before .before .before .before .before .before .before .before .before .before .before .args .grid) (meshOf (c .before .before .before .before .before .before .before .before .before .before .before .before .before .before .before .before .before .before .before .before .before .before .before .before .args .coords .now) (c .before .before .before .before .before .before .before .before .before .before .before .before .before .before .before .before .before .before .before .before .before .before .before .before .args .corners .now)) (lentOf (c .before .before .before .before .before .before .before .before .before .before .before .before .before .before .before .before .before .before .before .before .before .before .before .before .args .keys .now) (c .before .before .before .before .before .before .before .before .before .before .before .before .before .before .before .before .before .before .before .before .before .before .before .before .args .cells .now) (c .before .before .before .before .before .before .before .before .before .before .before .before .before .before .before .before .before .before .before .before .before .before .before .before .args .large .now)) (c .before .before .before .before .before .before .before .before .before .before .before .before .before .before .before .before .before .before .before .before .before .before .before .before .args .zeta .now) (c .before .before .before .before .before .before .before .before .before .before .before .before .before .before .before .before .before .before .before .before .before .before .before .before .args .x .now) (c .before .before .before .before .before .before .before .before .before .before .before .before .before .before .before .before .lists-refused .result) (c .before .before .before .before .before .before .before .before .before .before .before .before .before .before .before .before .lists-refused .ensures) (c .before .before .before .before .before .before .before .before .before .before .before .before .before .before .before .if1 .left) (sym (any-points (c .before .before .before .before .before .before .before .before .before .before .before .before .before .before .before .before .before .before .before .before .before .before .before .before .args .grid) (c .before .before .before .before .before .before .before .before .before .before .before .before .before .before .before .before .before .before .before .before .before .before .before .before .args .coords .now) (c .before .before .before .before .before .before .before .before .before .before .before .before .before .before .before .before .before .before .before .before .before .before .before .before .args .corners .now) (lentOf (c .before .before .before .before .before .before .before .before .before .before .before .before .before .before .before .before .before .before .before .before .before .before .before .before .args .keys .now) (c .before .before .before .before .before .before .before .before .before .before .before .before .before .before .before .before .before .before .before .before .before .before .before .before .args .cells .now) (c .before .before .before .before .before .before .before .before .before .before .before .before .before .before .before .before .before .before .before .before .before .before .before .before .args .large .now))) ∙ sym (c .before .before .before .before .before .before .before .before .before .before .before .before .before .before .is-sound .ensures) ∙ not-false _ (c .before .before .before .before .before .before .before .before .before .before .before .before .before .if2 .left)) (c .before .before .before .before .before .before .before .before .before .before .before .before .position-refused .result) (c .before .before .before .before .before .before .before .before .before .before .before .before .position-refused .ensures) (c .before .before .before .before .before .before .before .before .before .before .before .if3 .left) (c .before .before .before .before .before .before .before .before .before .before .new .result) (c .before .before .before .before .before .before .before .before .before .before .new .ensures) (k .0) (c .before .before .before .before .before .key .given .0 .0 .0) (k .1) (c .before .before .find .result) _ (c .before .before .find .ensures)
+returns-3 : tie.Need-returns-3
+returns-3 c = let a = c .before in
+    let l = a .before .before in
+    let e = l .before in
+    let s = start (e .before) in
+    refuse-asked (s .args .grid) (mesh s) (lists s) (s .args .zeta .now) (s .args .x .now) (e .before .refused .ensures) (e .if1 .left) (ap asked (sym (a .at2 .given .1)) ∙ l .locate .ensures)
 
 pub search-spec : {M : Type 1} → statement M
 search-spec =
     tie.close
     (tie.spec
-    lists-refused-requires
+    (λ c κs. search needs)
     returns
-    is-sound-requires
-    returns-2
-    position-refused-requires
-    returns-3
-    new-requires
-    container-requires
-    enum-known-key
-    enum-told
-    returns-4
+    locate-requires
+    (λ c. search needs)
+    (λ c κs. search needs)
     find-requires
-    same-length
-    returns-5)
+    (λ c. search needs)
+    (λ c. search needs)
+    returns-2
+    returns-3)

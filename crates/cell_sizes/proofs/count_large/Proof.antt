@@ -18,17 +18,8 @@ loop-holds : tie.Need-loop-holds Inv-loop μ-loop
 unfolding ofBits
 loop-holds c = let s = c .before .before in census-start (s .args .ndim) (meshOf (s .args .coords .now) (s .args .corners .now)) (s .args .limit)
 
-bounding-box-requires : tie.Need-bounding-box-requires Inv-loop μ-loop
-bounding-box-requires c κs = search needs
-
 counted-requires : tie.Need-counted-requires Inv-loop μ-loop
 counted-requires c κs = let s = c .before .before .before .before .before in let l = c .before .before .loop in (s .pre .0 .axes, (omega (arith, l .inv .all, s .pre), omega (arith, l .inv .all, s .pre)))
-
-add-cell : tie.Need-add-cell Inv-loop μ-loop
-add-cell c = search needs
-
-loop-less : tie.Need-loop-less Inv-loop μ-loop
-loop-less c = search needs
 
 loop-again : tie.Need-loop-again Inv-loop μ-loop
 loop-again c = let s = c .before .before .before .before .before .before in
@@ -48,9 +39,9 @@ count-large-spec =
     Inv-loop
     μ-loop
     loop-holds
-    bounding-box-requires
+    (λ c κs. search needs)
     counted-requires
-    add-cell
-    loop-less
+    (λ c. search needs)
+    (λ c. search needs)
     loop-again
     returns)

@@ -15,8 +15,5 @@ int-to-float-result-2 : tie.Need-int-to-float-result-2
 unfolding inFloat
 int-to-float-result-2 c = le→leb (c .before .before .args .b) (2 ^ 53) (omega arith)
 
-returns : tie.Need-returns
-returns c = search needs
-
 pub part-spec : {M : Type 1} → statement M
-part-spec = tie.close (tie.spec int-to-float-result int-to-float-result-2 returns)
+part-spec = tie.close (tie.spec int-to-float-result int-to-float-result-2 (λ c. search needs))

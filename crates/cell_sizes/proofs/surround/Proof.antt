@@ -13,27 +13,12 @@ Inv-loop ndim coords corners ncell all₀ cell₀ all cell = Passed ndim (meshOf
 abbrev μ-loop : tie.MeasureT-loop
 μ-loop ndim coords corners ncell all₀ cell₀ all cell = ncell - cell
 
-bounding-box-requires : tie.Need-bounding-box-requires Inv-loop μ-loop
-bounding-box-requires c κs = search needs
-
-largest-length-requires : tie.Need-largest-length-requires Inv-loop μ-loop
-largest-length-requires c κs = search needs
-
 loop-holds : tie.Need-loop-holds Inv-loop μ-loop
 loop-holds c = let s = c .before .before .before .before in
     extent-start (s .args .ndim) (meshOf (s .args .coords .now) (s .args .corners .now)) (c .before .bounding-box .result) (c .largest-length .result) (omega (arith, s .pre)) (c .before .bounding-box .ensures) (c .largest-length .ensures)
 
-bounding-box-requires-2 : tie.Need-bounding-box-requires-2 Inv-loop μ-loop
-bounding-box-requires-2 c κs = search needs
-
 widened-requires : tie.Need-widened-requires Inv-loop μ-loop
 widened-requires c κs = c .before .before .before .before .before .before .before .pre .0 .axes
-
-add-cell : tie.Need-add-cell Inv-loop μ-loop
-add-cell c = search needs
-
-loop-less : tie.Need-loop-less Inv-loop μ-loop
-loop-less c = search needs
 
 loop-again : tie.Need-loop-again Inv-loop μ-loop
 loop-again c = let s = c .before .before .before .before .before .before .before .before in
@@ -51,12 +36,12 @@ surround-spec =
     (tie.spec
     Inv-loop
     μ-loop
-    bounding-box-requires
-    largest-length-requires
+    (λ c κs. search needs)
+    (λ c κs. search needs)
     loop-holds
-    bounding-box-requires-2
+    (λ c κs. search needs)
     widened-requires
-    add-cell
-    loop-less
+    (λ c. search needs)
+    (λ c. search needs)
     loop-again
     returns)

@@ -5,17 +5,8 @@ use Rattle.floats.specs.Tests.{maxOf}
 use Rattle.cell_sizes.proofs.widened.Statement.{statement}
 use Rattle.cell_sizes.proofs.widened.Tie as tie
 
-joined-requires : tie.Need-joined-requires
-joined-requires c κs = search needs
-
-largest-length-requires : tie.Need-largest-length-requires
-largest-length-requires c κs = search needs
-
-max-requires : tie.Need-max-requires
-max-requires c κs = search needs
-
 returns : tie.Need-returns
 returns c = record { limits = c .before .before .joined .ensures; largest = c .max .ensures ∙ ap (maxOf (c .before .before .before .args .all .largest)) (c .before .largest-length .ensures) }
 
 pub widened-spec : {M : Type 1} → statement M
-widened-spec = tie.close (tie.spec joined-requires largest-length-requires max-requires returns)
+widened-spec = tie.close (tie.spec (λ c κs. search needs) (λ c κs. search needs) (λ c κs. search needs) returns)

@@ -19,10 +19,14 @@ put-text-requires : tie.Need-put-text-requires
 put-text-requires c κs = omega (arith, named-length (ascii "ids") (listText (map (within (c .before .before .before .before .before .args .ids .now)) (take (c .before .before .before .before .before .args .n) (c .before .before .before .before .before .args .order .now)))))
 
 put-ids-requires : tie.Need-put-ids-requires
-put-ids-requires c κs = (c .before .before .before .before .before .before .before .before .before .pre .0, (c .before .before .before .before .before .before .before .before .before .pre .1 .0, omega (arith, named-length (ascii "ids") (listText (map (within (c .before .before .before .before .before .before .before .before .before .args .ids .now)) (take (c .before .before .before .before .before .before .before .before .before .args .n) (c .before .before .before .before .before .before .before .before .before .args .order .now)))))))
+put-ids-requires c κs =
+    let start = c .before .before .before .before .before .before .before .before .before in
+    (start .pre .0, (start .pre .1 .0, omega (arith, named-length (ascii "ids") (listText (map (within (start .args .ids .now)) (take (start .args .n) (start .args .order .now)))))))
 
 put-byte-requires : tie.Need-put-byte-requires
-put-byte-requires c κs = omega (arith, named-length (ascii "ids") (listText (map (within (c .before .before .before .before .before .before .before .before .before .before .before .before .before .args .ids .now)) (take (c .before .before .before .before .before .before .before .before .before .before .before .before .before .args .n) (c .before .before .before .before .before .before .before .before .before .before .before .before .before .args .order .now)))))
+put-byte-requires c κs =
+    let start = c .before .before .before .before .before .before .before .before .before .before .before .before .before in
+    omega (arith, named-length (ascii "ids") (listText (map (within (start .args .ids .now)) (take (start .args .n) (start .args .order .now)))))
 
 same-length : tie.Need-same-length
 same-length c = search needs

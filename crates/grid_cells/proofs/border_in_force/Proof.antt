@@ -5,9 +5,6 @@ use Rattle.grid_search.specs.Sheet.{borderOf}
 use Rattle.grid_cells.proofs.border_in_force.Statement.{statement}
 use Rattle.grid_cells.proofs.border_in_force.Tie as tie
 
-enum-known-border-tol : tie.Need-enum-known-border-tol
-enum-known-border-tol c = search needs
-
 enum-told : tie.Need-enum-told
 enum-told c = search needs
 
@@ -20,4 +17,4 @@ unfolding borderOf ofBits
 returns-2 c = rw (c .enum-told .given .1)
 
 pub border-in-force-spec : {M : Type 1} → statement M
-border-in-force-spec = tie.close (tie.spec enum-known-border-tol enum-told returns returns-2)
+border-in-force-spec = tie.close (tie.spec (λ c. search needs) enum-told returns returns-2)

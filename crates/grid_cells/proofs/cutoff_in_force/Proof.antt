@@ -5,9 +5,6 @@ use Rattle.grid_cells.specs.Build.{cutoffOf}
 use Rattle.grid_cells.proofs.cutoff_in_force.Statement.{statement}
 use Rattle.grid_cells.proofs.cutoff_in_force.Tie as tie
 
-enum-known-large-cutoff : tie.Need-enum-known-large-cutoff
-enum-known-large-cutoff c = search needs
-
 enum-told : tie.Need-enum-told
 enum-told c = search needs
 
@@ -20,4 +17,4 @@ unfolding cutoffOf ofBits
 returns-2 c = rw (c .enum-told .given .1)
 
 pub cutoff-in-force-spec : {M : Type 1} → statement M
-cutoff-in-force-spec = tie.close (tie.spec enum-known-large-cutoff enum-told returns returns-2)
+cutoff-in-force-spec = tie.close (tie.spec (λ c. search needs) enum-told returns returns-2)

@@ -1,68 +1,96 @@
 -- `grid_cells::finish` meets its contract. Assumes nothing.
 use native.Mathlib.Omega.{arith}
-use mathlib.Core.Path.{sym, ap, _∙_}
-use borrow.Author.Needs.{needs}
-use Rattle.grid_cells.proofs.Builds.{finish-far, finish-rows, finish-large, finish-fits, finish-made}
-use Rattle.grid_cells.specs.Build.{lentOf}
-use Rattle.cell_rows.specs.Steps.{rowsIn}
+use Prim.Native.Nat.{_≤_}
+use mathlib.Core.Path.{_≡_, ap, _∙_}
+use mathlib.Core.Bool.{Bool}
+use mathlib.Core.List.{List}
+use lib.ListN.{length}
+use Rattle.mesh.specs.Mesh.{Mesh, Box, meshOf}
+use Rattle.cell_sizes.specs.Large.{boxes, isFiled}
 use Rattle.cell_sizes.proofs.Boxes.{length-boxes}
-use Rattle.cell_sizes.specs.Large.{boxes}
-use Rattle.mesh.specs.Mesh.{meshOf}
+use Rattle.cell_rows.specs.Steps.{rowsIn, rowCountOr}
+use Rattle.grid_cells.specs.Build.{containersOf, IndexLists, indexLists}
+use Rattle.grid_cells.proofs.Builds.{finish-far, finish-full, finish-fits, finish-room, finish-made}
+use borrow.Author.Needs.{needs}
 use Rattle.grid_cells.proofs.finish.Statement.{statement}
 use Rattle.grid_cells.proofs.finish.Tie as tie
 
-count-rows-requires : tie.Need-count-rows-requires
-count-rows-requires c κs = search needs
+abbrev start : tie.After-containers → tie.Start
+start c = c .before .before .before .before .before .before
 
-enum-known-used : tie.Need-enum-known-used
-enum-known-used c = search needs
+abbrev mesh : tie.Start → Mesh
+mesh s = meshOf (s .args .coords .now) (s .args .corners .now)
+
+abbrev all-boxes : tie.Start → List Box
+all-boxes s = boxes (s .args .grid .ndim) (mesh s)
+
+abbrev lists : tie.Start → IndexLists
+lists s = indexLists (s .args .keys .now) (s .args .cells .now) (s .args .large .now)
+
+few : (s : tie.Start) → length (all-boxes s) ≤ 65536
+few s = omega (arith, length-boxes (s .args .grid .ndim) (mesh s), s .pre .count, s .pre .few)
+
+-- what the count says of the index
+count : (c : tie.After-count-rows) → let s = start (c .before) in
+    rowsIn (c .count-rows .result) ≡ rowCountOr (containersOf (s .args .grid)) (isFiled (s .args .sizes .apart) (s .args .sizes .limit)) (all-boxes s)
+count c = rw (c .before .containers .ensures) at (c .count-rows .ensures)
+
+count-rows-requires : tie.Need-count-rows-requires
+count-rows-requires c κs = let s = start c in rw (c .containers .ensures) (s .pre .keyed, (s .pre .whole, (s .pre .count, s .pre .few)))
 
 enum-told : tie.Need-enum-told
 enum-told c = search needs
 
 returns : tie.Need-returns
-returns c = let s = c .before .before .before .before .before .before .before .before .before .before .before in finish-far (s .args .grid) (s .args .sizes .apart) (s .args .sizes .limit) (boxes (s .args .grid .ndim) (meshOf (s .args .coords .now) (s .args .corners .now))) (lentOf (s .args .keys .now) (s .args .cells .now) (s .args .large .now)) (omega (arith, length-boxes (s .args .grid .ndim) (meshOf (s .args .coords .now) (s .args .corners .now)), s .pre .1 .1 .0, s .pre .1 .1 .1 .0)) (sym (ap rowsIn (c .enum-told .given .1)) ∙ c .before .before .count-rows .ensures)
+returns c = let k = c .before .before in
+    let s = start (k .before) in
+    finish-far (s .args .grid) (s .args .sizes .apart) (s .args .sizes .limit) (all-boxes s) (lists s) (few s) (rw (c .enum-told .given .1) at (count k))
 
 returns-2 : tie.Need-returns-2
-returns-2 c = let s = c .before .before .before .before .before .before .before .before .before .before .before .before .before in finish-rows (s .args .grid) (s .args .sizes .apart) (s .args .sizes .limit) (boxes (s .args .grid .ndim) (meshOf (s .args .coords .now) (s .args .corners .now))) (lentOf (s .args .keys .now) (s .args .cells .now) (s .args .large .now)) (omega (arith, length-boxes (s .args .grid .ndim) (meshOf (s .args .coords .now) (s .args .corners .now)), s .pre .1 .1 .0, s .pre .1 .1 .1 .0)) (c .before .before .used .given .0 .0) (sym (ap rowsIn (c .before .before .used .given .1)) ∙ c .before .before .before .before .count-rows .ensures) (c .if1 .taken)
-
-returns-3 : tie.Need-returns-3
-returns-3 c = let s = c .before .before .before .before .before .before .before .before .before .before .before .before .before .before .before in finish-large (s .args .grid) (s .args .sizes .apart) (s .args .sizes .limit) (boxes (s .args .grid .ndim) (meshOf (s .args .coords .now) (s .args .corners .now))) (lentOf (s .args .keys .now) (s .args .cells .now) (s .args .large .now)) (omega (arith, length-boxes (s .args .grid .ndim) (meshOf (s .args .coords .now) (s .args .corners .now)), s .pre .1 .1 .0, s .pre .1 .1 .1 .0)) (c .before .before .before .before .used .given .0 .0) (sym (ap rowsIn (c .before .before .before .before .used .given .1)) ∙ c .before .before .before .before .before .before .count-rows .ensures) (c .before .before .if1 .left) (s .args .sizes .large) (s .pre .1 .1 .1 .1 .1) (c .if2 .taken)
+returns-2 c = let k = c .before .before .before .before .before in
+    let s = start (k .before) in
+    let counted = rw (c .before .before .before .used .given .1) at (count k) in
+    finish-full (s .args .grid) (s .args .sizes .apart) (s .args .sizes .limit) (all-boxes s) (lists s) (few s) counted (s .pre .large) (c .if1 .taken)
 
 file-cells-requires : tie.Need-file-cells-requires
-file-cells-requires c κs = let s = c .before .before .before .before .before .before .before .before .before .before .before .before .before .before .before .before .before in
-    (s .pre .0, (s .pre .1 .0, (s .pre .1 .1 .0, (s .pre .1 .1 .1 .0, (s .pre .1 .1 .1 .1 .0, finish-fits (s .args .grid) (s .args .sizes .apart) (s .args .sizes .limit) (boxes (s .args .grid .ndim) (meshOf (s .args .coords .now) (s .args .corners .now))) (lentOf (s .args .keys .now) (s .args .cells .now) (s .args .large .now)) (omega (arith, length-boxes (s .args .grid .ndim) (meshOf (s .args .coords .now) (s .args .corners .now)), s .pre .1 .1 .0, s .pre .1 .1 .1 .0)) (c .before .before .before .before .before .before .used .given .0 .0) (sym (ap rowsIn (c .before .before .before .before .before .before .used .given .1)) ∙ c .before .before .before .before .before .before .before .before .count-rows .ensures) (c .before .before .before .before .if1 .left) (s .args .sizes .large) (s .pre .1 .1 .1 .1 .1))))))
+file-cells-requires c κs = let e = c .before .before in
+    let k = e .before .before .before .before .before in
+    let s = start (k .before) in
+    let counted = rw (e .before .before .before .used .given .1) at (count k) in
+    let fits = finish-fits (s .args .grid) (s .args .sizes .apart) (s .args .sizes .limit) (all-boxes s) (lists s) (few s) counted (s .pre .large) (e .if1 .left) in
+    rw (k .before .containers .ensures) (s .pre .keyed, (s .pre .whole, (s .pre .count, (s .pre .few, (s .pre .lengths, fits)))))
 
 write-large-requires : tie.Need-write-large-requires
-write-large-requires c κs = let s = c .before .before .before .before .before .before .before .before .before .before .before .before .before .before .before .before .before .before .before .before .before .before .before in (s .pre .1 .0, (s .pre .1 .1 .0, rw (← s .pre .1 .1 .1 .1 .1) (c .before .before .before .before .before .before .before .before .if2 .left)))
+write-large-requires c κs = let e = c .before .before .before .before .before .before .before .before in
+    let k = e .before .before .before .before .before in
+    let s = start (k .before) in
+    let counted = rw (e .before .before .before .used .given .1) at (count k) in
+    let room = finish-room (s .args .grid) (s .args .sizes .apart) (s .args .sizes .limit) (all-boxes s) (lists s) (few s) counted (s .pre .large) (e .if1 .left) in
+    (s .pre .whole, (s .pre .count, room))
 
-same-length : tie.Need-same-length
-same-length c = search needs
-
-same-length-2 : tie.Need-same-length-2
-same-length-2 c = search needs
-
-same-length-3 : tie.Need-same-length-3
-same-length-3 c = search needs
-
-returns-4 : tie.Need-returns-4
-returns-4 c = let s = c .before .before .before .before .before .before .before .before .before .before .before .before .before .before .before .before .before .before .before .before .before .before .before .before .before .before in
-    finish-made (s .args .grid) (s .args .sizes .apart) (s .args .sizes .limit) (boxes (s .args .grid .ndim) (meshOf (s .args .coords .now) (s .args .corners .now))) (lentOf (s .args .keys .now) (s .args .cells .now) (s .args .large .now)) (omega (arith, length-boxes (s .args .grid .ndim) (meshOf (s .args .coords .now) (s .args .corners .now)), s .pre .1 .1 .0, s .pre .1 .1 .1 .0)) (c .before .before .before .before .before .before .before .before .before .before .before .before .before .before .before .used .given .0 .0) (sym (ap rowsIn (c .before .before .before .before .before .before .before .before .before .before .before .before .before .before .before .used .given .1)) ∙ c .before .before .before .before .before .before .before .before .before .before .before .before .before .before .before .before .before .count-rows .ensures) (c .before .before .before .before .before .before .before .before .before .before .before .before .before .if1 .left) (s .args .sizes .large) (s .pre .1 .1 .1 .1 .1) (c .before .before .before .before .before .before .before .before .file-cells .last .1 .1 .1 .1 .1 .0) (c .before .before .before .before .before .before .before .before .file-cells .last .1 .1 .1 .1 .1 .1 .0) (c .before .before .write-large .last .1 .1 .1 .1 .1 .0)
-    (c .before .before .before .before .before .before .before .before .before .before .before .if2 .left) (c .before .before .before .before .before .before .before .before .file-cells .ensures) (c .before .before .write-large .ensures)
+returns-3 : tie.Need-returns-3
+returns-3 c = let e = c .before .before .before .before .before .before .before .before .before .before .before .before in
+    let k = e .before .before .before .before .before in
+    let s = start (k .before) in
+    let counted = rw (e .before .before .before .used .given .1) at (count k) in
+    let filed = rw (k .before .containers .ensures) at (c .before .before .before .before .before .before .before .before .before .file-cells .ensures) in
+    let made = finish-made (s .args .grid) (s .args .sizes .apart) (s .args .sizes .limit) (all-boxes s) (lists s) (few s) counted (s .pre .large) (e .if1 .left) filed in
+    rw (c .with-rows .ensures) (made (c .before .before .before .write-large .ensures))
 
 pub finish-spec : {M : Type 1} → statement M
 finish-spec =
     tie.close
     (tie.spec
+    (λ c κs. search needs)
     count-rows-requires
-    enum-known-used
+    (λ c. search needs)
     enum-told
     returns
     returns-2
-    returns-3
     file-cells-requires
     write-large-requires
-    same-length
-    same-length-2
-    same-length-3
-    returns-4)
+    (λ c κs. search needs)
+    (λ c. search needs)
+    (λ c. search needs)
+    (λ c. search needs)
+    returns-3)

@@ -5,9 +5,6 @@ use Rattle.grid_cells.specs.Build.{percentageOf}
 use Rattle.grid_cells.proofs.pct_in_force.Statement.{statement}
 use Rattle.grid_cells.proofs.pct_in_force.Tie as tie
 
-enum-known-large-pct : tie.Need-enum-known-large-pct
-enum-known-large-pct c = search needs
-
 enum-told : tie.Need-enum-told
 enum-told c = search needs
 
@@ -20,4 +17,4 @@ unfolding percentageOf ofBits
 returns-2 c = rw (c .enum-told .given .1)
 
 pub pct-in-force-spec : {M : Type 1} → statement M
-pct-in-force-spec = tie.close (tie.spec enum-known-large-pct enum-told returns returns-2)
+pct-in-force-spec = tie.close (tie.spec (λ c. search needs) enum-told returns returns-2)

@@ -8,17 +8,11 @@ use Rattle.mesh.specs.Mesh.{meshOf, cornerPoints}
 use Rattle.mesh.proofs.cell_coords.Statement.{statement}
 use Rattle.mesh.proofs.cell_coords.Tie as tie
 
-corner-requires : tie.Need-corner-requires
-corner-requires c κs = search needs
-
 corner-requires-2 : tie.Need-corner-requires-2
 corner-requires-2 c κs = let s = c .before .before .before in (s .pre .0, (s .pre .1, omega (arith, few-axes (s .args .ndim) (s .pre .0 .axes))))
 
 corner-requires-3 : tie.Need-corner-requires-3
 corner-requires-3 c κs = let s = c .before .before .before .before in (s .pre .0, (s .pre .1, omega (arith, few-axes (s .args .ndim) (s .pre .0 .axes))))
-
-triangle-coords-requires : tie.Need-triangle-coords-requires
-triangle-coords-requires c κs = search needs
 
 returns : tie.Need-returns
 returns c = let s = c .before .before .before .before .before .before .before in
@@ -28,9 +22,6 @@ returns c = let s = c .before .before .before .before .before .before .before in
 
 corner-requires-4 : tie.Need-corner-requires-4
 corner-requires-4 c κs = let s = c .before .before .before .before .before .before in (s .pre .0, (s .pre .1, omega (arith, three (s .args .ndim) (s .pre .0 .axes) (c .if1 .left))))
-
-tetrahedron-coords-requires : tie.Need-tetrahedron-coords-requires
-tetrahedron-coords-requires c κs = search needs
 
 returns-2 : tie.Need-returns-2
 returns-2 c = let s = c .before .before .before .before .before .before .before .before in
@@ -43,11 +34,11 @@ pub cell-coords-spec : {M : Type 1} → statement M
 cell-coords-spec =
     tie.close
     (tie.spec
-    corner-requires
+    (λ c κs. search needs)
     corner-requires-2
     corner-requires-3
-    triangle-coords-requires
+    (λ c κs. search needs)
     returns
     corner-requires-4
-    tetrahedron-coords-requires
+    (λ c κs. search needs)
     returns-2)

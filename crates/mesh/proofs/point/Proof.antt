@@ -10,27 +10,6 @@ use Rattle.geometry.specs.Position.{positionOf}
 use Rattle.mesh.proofs.point.Statement.{statement}
 use Rattle.mesh.proofs.point.Tie as tie
 
-mul-at : tie.Need-mul-at
-mul-at c = search needs
-
-add-new : tie.Need-add-new
-add-new c = search needs
-
-mul-new : tie.Need-mul-new
-mul-new c = search needs
-
-sub-new : tie.Need-sub-new
-sub-new c = search needs
-
-part-new-start : tie.Need-part-new-start
-part-new-start c = search needs
-
-part-new-end : tie.Need-part-new-end
-part-new-end c = search needs
-
-new-requires : tie.Need-new-requires
-new-requires c κs = search needs
-
 returns : tie.Need-returns
 unfolding pointAt
 returns c = let s = c .before .before .before in
@@ -40,4 +19,4 @@ returns c = let s = c .before .before .before in
 pub point-spec : {M : Type 1} → statement M
 point-spec =
     tie.close
-    (tie.spec mul-at add-new mul-new sub-new part-new-start part-new-end new-requires returns)
+    (tie.spec (λ c. search needs) (λ c. search needs) (λ c. search needs) (λ c. search needs) (λ c. search needs) (λ c. search needs) (λ c κs. search needs) returns)

@@ -1,56 +1,35 @@
 -- `capi::cells::lists_refused` meets its contract. Assumes nothing.
 use mathlib.Core.Path.{sym, _∙_}
-use borrow.Author.Tests.{eq-eqb, ne-eqb, not-true, not-false}
+use borrow.Author.Tests.{not-true, not-false}
+use Rattle.mesh.specs.Mesh.{Mesh, meshOf}
+use Rattle.grid_cells.specs.Build.{IndexLists, indexLists}
+use Rattle.capi.proofs.Builds.{lists-sizes, lists-13, lists-none}
 use borrow.Author.Needs.{needs}
-use Rattle.basics.specs.Refusals.{fault, code}
-use Rattle.grid_cells.specs.Steps.{listTests}
-use Rattle.capi.specs.Cells.{cellsListTests}
 use Rattle.capi.proofs.cells.lists_refused.Statement.{statement}
 use Rattle.capi.proofs.cells.lists_refused.Tie as tie
 
-is-dimension-requires : tie.Need-is-dimension-requires
-is-dimension-requires c κs = search needs
+abbrev start : tie.After-sizes-refused → tie.Start
+start c = c .before .before .before .before .before .before .before .before
+
+abbrev mesh : tie.Start → Mesh
+mesh s = meshOf (s .args .coords .now) (s .args .corners .now)
+
+abbrev lists : tie.Start → IndexLists
+lists s = indexLists (s .args .keys .now) (s .args .cells .now) (s .args .large .now)
 
 returns : tie.Need-returns
-unfolding listTests cellsListTests fault code
-returns c = rw (sym (c .before .is-dimension .ensures) ∙ not-true _ (c .if1 .taken))
-
-is-too-long-requires : tie.Need-is-too-long-requires
-is-too-long-requires c κs = sym (c .before .is-dimension .ensures) ∙ not-false _ (c .if1 .left)
+returns c = let s = start (c .before) in lists-sizes (s .args .ndim) (mesh s) (lists s) (s .args .numbers .now) (s .args .floats .now) (c .before .sizes-refused .ensures) (c .if1 .taken)
 
 returns-2 : tie.Need-returns-2
-unfolding listTests cellsListTests fault code
-returns-2 c = rw (sym (c .before .before .before .is-dimension .ensures) ∙ not-false _ (c .before .before .if1 .left), sym (c .before .is-too-long .ensures) ∙ c .if2 .taken)
-
-is-too-long-requires-2 : tie.Need-is-too-long-requires-2
-is-too-long-requires-2 c κs = search needs
+returns-2 c = let p = c .before .before in
+    let s = start (p .before) in
+    lists-13 (s .args .ndim) (mesh s) (lists s) (s .args .numbers .now) (s .args .floats .now) (p .before .sizes-refused .ensures) (p .if1 .left) (sym (c .before .have-lengths .ensures) ∙ not-true _ (c .if2 .taken))
 
 returns-3 : tie.Need-returns-3
-unfolding listTests cellsListTests fault code
-returns-3 c = rw (sym (c .before .before .before .before .before .is-dimension .ensures) ∙ not-false _ (c .before .before .before .before .if1 .left), sym (c .before .before .before .is-too-long .ensures) ∙ c .before .before .if2 .left, sym (c .before .is-too-long2 .ensures) ∙ c .if3 .taken)
-
-returns-4 : tie.Need-returns-4
-unfolding listTests cellsListTests fault code
-returns-4 c = rw (sym (c .before .before .before .before .before .before .is-dimension .ensures) ∙ not-false _ (c .before .before .before .before .before .if1 .left), sym (c .before .before .before .before .is-too-long .ensures) ∙ c .before .before .before .if2 .left, sym (c .before .before .is-too-long2 .ensures) ∙ c .before .if3 .left, ne-eqb _ _ (c .if4 .taken))
-
-returns-5 : tie.Need-returns-5
-unfolding listTests cellsListTests fault code
-returns-5 c = rw (sym (c .before .before .before .before .before .before .before .is-dimension .ensures) ∙ not-false _ (c .before .before .before .before .before .before .if1 .left), sym (c .before .before .before .before .before .is-too-long .ensures) ∙ c .before .before .before .before .if2 .left, sym (c .before .before .before .is-too-long2 .ensures) ∙ c .before .before .if3 .left, eq-eqb _ _ (c .before .if4 .left), ne-eqb _ _ (c .if5 .taken))
-
-returns-6 : tie.Need-returns-6
-unfolding listTests cellsListTests fault code
-returns-6 c = rw (sym (c .before .before .before .before .before .before .before .is-dimension .ensures) ∙ not-false _ (c .before .before .before .before .before .before .if1 .left), sym (c .before .before .before .before .before .is-too-long .ensures) ∙ c .before .before .before .before .if2 .left, sym (c .before .before .before .is-too-long2 .ensures) ∙ c .before .before .if3 .left, eq-eqb _ _ (c .before .if4 .left), eq-eqb _ _ (c .if5 .left))
+returns-3 c = let p = c .before .before in
+    let s = start (p .before) in
+    lists-none (s .args .ndim) (mesh s) (lists s) (s .args .numbers .now) (s .args .floats .now) (p .before .sizes-refused .ensures) (p .if1 .left) (sym (c .before .have-lengths .ensures) ∙ not-false _ (c .if2 .left))
 
 pub lists-refused-spec : {M : Type 1} → statement M
 lists-refused-spec =
-    tie.close
-    (tie.spec
-    is-dimension-requires
-    returns
-    is-too-long-requires
-    returns-2
-    is-too-long-requires-2
-    returns-3
-    returns-4
-    returns-5
-    returns-6)
+    tie.close (tie.spec (λ c κs. search needs) returns (λ c κs. search needs) returns-2 returns-3)

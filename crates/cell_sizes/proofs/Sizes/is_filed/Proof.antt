@@ -6,9 +6,6 @@ use Rattle.cell_sizes.specs.Large.{isFiled}
 use Rattle.cell_sizes.proofs.Sizes.is_filed.Statement.{statement}
 use Rattle.cell_sizes.proofs.Sizes.is_filed.Tie as tie
 
-is-large-requires : tie.Need-is-large-requires
-is-large-requires c κs = search needs
-
 returns : tie.Need-returns
 unfolding isFiled
 returns c = rw (c .before .if1 .taken) (ap not (c .is-large .ensures))
@@ -18,4 +15,4 @@ unfolding isFiled
 returns-2 c = rw (c .if1 .left)
 
 pub is-filed-spec : {M : Type 1} → statement M
-is-filed-spec = tie.close (tie.spec is-large-requires returns returns-2)
+is-filed-spec = tie.close (tie.spec (λ c κs. search needs) returns returns-2)

@@ -9,18 +9,6 @@ use Rattle.grid_cells.specs.Build.{cellDivisions}
 use Rattle.grid_cells.proofs.frame.divide.Statement.{statement}
 use Rattle.grid_cells.proofs.frame.divide.Tie as tie
 
-divisions-along-requires : tie.Need-divisions-along-requires
-divisions-along-requires c κs = search needs
-
-divisions-along-requires-2 : tie.Need-divisions-along-requires-2
-divisions-along-requires-2 c κs = search needs
-
-divisions-along-requires-3 : tie.Need-divisions-along-requires-3
-divisions-along-requires-3 c κs = search needs
-
-in-use-requires : tie.Need-in-use-requires
-in-use-requires c κs = search needs
-
 returns : tie.Need-returns
 unfolding cellDivisions
 returns c =
@@ -32,8 +20,8 @@ pub divide-spec : {M : Type 1} → statement M
 divide-spec =
     tie.close
     (tie.spec
-    divisions-along-requires
-    divisions-along-requires-2
-    divisions-along-requires-3
-    in-use-requires
+    (λ c κs. search needs)
+    (λ c κs. search needs)
+    (λ c κs. search needs)
+    (λ c κs. search needs)
     returns)

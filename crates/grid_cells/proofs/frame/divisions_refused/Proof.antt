@@ -2,27 +2,18 @@
 use mathlib.Core.Path.{sym, _∙_}
 use borrow.Author.Tests.{not-true, not-false}
 use borrow.Author.Needs.{needs}
-use Rattle.grid_cells.specs.Steps.{divisionTests}
+use Rattle.grid_cells.specs.Build.{divisionTests}
 use Rattle.basics.specs.Refusals.{fault, code}
 use Rattle.grid_cells.proofs.frame.divisions_refused.Statement.{statement}
 use Rattle.grid_cells.proofs.frame.divisions_refused.Tie as tie
-
-is-above-requires : tie.Need-is-above-requires
-is-above-requires c κs = search needs
 
 returns : tie.Need-returns
 unfolding divisionTests fault code
 returns c = rw (sym (c .before .is-above .ensures) ∙ not-true _ (c .if1 .taken))
 
-has-none-requires : tie.Need-has-none-requires
-has-none-requires c κs = search needs
-
 returns-2 : tie.Need-returns-2
 unfolding divisionTests fault code
 returns-2 c = rw (sym (c .before .before .before .is-above .ensures) ∙ not-false _ (c .before .before .if1 .left), sym (c .before .has-none .ensures) ∙ c .if2 .taken)
-
-has-many-requires : tie.Need-has-many-requires
-has-many-requires c κs = search needs
 
 returns-3 : tie.Need-returns-3
 unfolding divisionTests fault code
@@ -36,10 +27,10 @@ pub divisions-refused-spec : {M : Type 1} → statement M
 divisions-refused-spec =
     tie.close
     (tie.spec
-    is-above-requires
+    (λ c κs. search needs)
     returns
-    has-none-requires
+    (λ c κs. search needs)
     returns-2
-    has-many-requires
+    (λ c κs. search needs)
     returns-3
     returns-4)

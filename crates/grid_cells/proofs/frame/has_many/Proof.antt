@@ -7,11 +7,8 @@ use Rattle.geometry.proofs.Axes.{any-tests}
 use Rattle.grid_cells.proofs.frame.has_many.Statement.{statement}
 use Rattle.grid_cells.proofs.frame.has_many.Tie as tie
 
-on-some-axis-requires : tie.Need-on-some-axis-requires
-on-some-axis-requires c κs = search needs
-
 returns : tie.Need-returns
 returns c = let d = c .before .before .before .before .args .ndiv in rw (any-tests (λ (d : ℕ). ltb 1024 d) (c .before .before .before .before .args .ndim) (d .x ∷ d .y ∷ d .z ∷ [])) (c .on-some-axis .ensures)
 
 pub has-many-spec : {M : Type 1} → statement M
-has-many-spec = tie.close (tie.spec on-some-axis-requires returns)
+has-many-spec = tie.close (tie.spec (λ c κs. search needs) returns)

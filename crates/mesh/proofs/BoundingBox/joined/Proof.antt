@@ -4,15 +4,9 @@ use Rattle.mesh.specs.Mesh.{joinedBox}
 use Rattle.mesh.proofs.BoundingBox.joined.Statement.{statement}
 use Rattle.mesh.proofs.BoundingBox.joined.Tie as tie
 
-lower-requires : tie.Need-lower-requires
-lower-requires c κs = search needs
-
-upper-requires : tie.Need-upper-requires
-upper-requires c κs = search needs
-
 returns : tie.Need-returns
 unfolding joinedBox
 returns c = λ n. rw (c .before .lower .ensures n, c .upper .ensures n)
 
 pub joined-spec : {M : Type 1} → statement M
-joined-spec = tie.close (tie.spec lower-requires upper-requires returns)
+joined-spec = tie.close (tie.spec (λ c κs. search needs) (λ c κs. search needs) returns)
