@@ -12,12 +12,12 @@ use lib.Ieee.{Float}
 use borrow.Author.Tests.{ltb-false, eqb-true, eqb-false, not-false}
 use Rattle.basics.proofs.Bools.{by-test, or-left, or-right}
 use Rattle.basics.specs.Lists.{all, any, over}
-use Rattle.basics.specs.Refusals.{Test, fault, code, refused, success, answer}
+use Rattle.basics.specs.Refusals.{Test, fault, code, success, answer}
 use Rattle.basics.proofs.Refusals.{Passed, unrefused, fault-stop, fault-right, code-some, code-none}
 use Rattle.geometry.specs.Position.{dimension}
 use Rattle.grid.specs.Divisions.{counts, division}
 use Rattle.grid_search.specs.Sheet.{inOrder}
-use Rattle.mesh.specs.Mesh.{Mesh, Box, pointCount, cellCount, meshTooLong, Whole}
+use Rattle.mesh.specs.Mesh.{Mesh, Box, pointCount, cellCount, meshTooLong}
 use Rattle.cell_sizes.specs.declared.Settings.{Settings}
 use Rattle.cell_sizes.specs.declared.Sizes.{Sizes}
 use Rattle.cell_sizes.specs.Large.{boxes, isFiled, largeOf, Measured, measure}
@@ -29,7 +29,7 @@ use Rattle.cell_rows.proofs.Rows.{rows-count}
 use Rattle.grid_cells.specs.declared.GridCells.{GridCells}
 use Rattle.grid_cells.specs.declared.Built.{Built}
 use Rattle.grid_cells.specs.declared.Built.the-variants.{Index, Refused}
-use Rattle.grid_cells.specs.Build.{lowCorner, highCorner, index, containersOf, withRows, fileIndex, make, IndexLists, indexLists, listsTooLong, sizeTests, meshTests, settingTests, cellTests, divisionTests, frameTests, rowTests, laterTests, buildTests, Build, settleBuild, build, built, leavesLists}
+use Rattle.grid_cells.specs.Build.{lowCorner, highCorner, index, containersOf, withRows, fileIndex, make, IndexLists, indexLists, listsTooLong, sizeTests, meshTests, settingTests, cellTests, divisionTests, frameTests, rowTests, laterTests, buildTests, settleBuild, build, built, leavesLists}
 use Rattle.grid_cells.specs.Steps.{earlyTests, Measurable, Finishable, finishOf}
 use Rattle.grid_cells.proofs.Ways.{divided, answered-by, refused-by}
 
@@ -118,10 +118,7 @@ module _ (n : ℕ) (m : Mesh) (t : Settings) (l : IndexLists) where
           at-index : Finishable (index n w t) sizes m (cellCount n m) l
           unfolding index
           at-index = record {
-            keyed = index-keyed;
-            whole = measurable .whole;
-            count = refl;
-            few = measurable .few;
+            fileable = record { keyed = index-keyed; whole = measurable .whole; count = refl; few = measurable .few };
             lengths = measurable .lengths;
             large = s .large ∙ rw (large-is, s .apart, s .limit);
           }

@@ -1,6 +1,6 @@
 // What turns a build away before anything is measured. Each function gives document 01's number, or 0.
 ghost use mathlib.Core.Path.{_≡_};
-ghost use mathlib.Core.Bool.{true, _&&_};
+ghost use mathlib.Core.Bool.{_&&_};
 ghost use mathlib.Core.List.{[], _∷_};
 ghost use Rattle.basics.specs.Lists.{all};
 ghost use Rattle.basics.specs.Refusals.{fault, code};

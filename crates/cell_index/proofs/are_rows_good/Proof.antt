@@ -1,6 +1,5 @@
 -- `cell_index::are_rows_good` meets its contract. Invariant: the flag says it of the rows passed. Assumes nothing.
 use Prim.Native.Nat.{_+_, _-_, _<_}
-use Rattle.basics.specs.Lists.{tab}
 use Rattle.cell_index.proofs.Linked.{linked, linked-turn, linked-end, rows-linked, no-rows}
 use Rattle.cell_index.specs.Index.{goodSlot, goodRows}
 use Rattle.table.specs.Rows.{before, slotAt, slotsOf}

@@ -4,13 +4,13 @@ use Prim.Native.Nat.{_-_}
 use mathlib.Core.Path.{_≡_, refl, ap, _∙_}
 use lib.ListN.{length}
 use Rattle.mesh.specs.Mesh.{meshOf}
-use Rattle.cell_search.proofs.Walk.{Passed, axis-fails, axis-passes, axes-end, Seeking, seek-box, seek-coords, seek-hit, seek-end}
+use Rattle.cell_search.proofs.Walk.{AxesPassed, axis-fails, axis-passes, axes-end, Seeking, seek-box, seek-coords, seek-hit, seek-end}
 use borrow.Author.Needs.{needs}
 use Rattle.cell_search.proofs.find_cell.Statement.{statement}
 use Rattle.cell_search.proofs.find_cell.Tie as tie
 
 abbrev Inv-loop : tie.InvT-loop
-Inv-loop ndim coords corners cells from to x zeta at₀ cell-id cell b i₀ at i = (at ≡ at₀) × Passed ndim b x i
+Inv-loop ndim coords corners cells from to x zeta at₀ cell-id cell b i₀ at i = (at ≡ at₀) × AxesPassed ndim b x i
 
 abbrev μ-loop : tie.MeasureT-loop
 μ-loop ndim coords corners cells from to x zeta at₀ cell-id cell b i₀ at i = ndim - i

@@ -1,7 +1,6 @@
 -- `grid_cells::refusals::refused` meets its contract. Assumes nothing.
 -- A law for each way out.
 use mathlib.Core.Path.{sym, _∙_}
-use mathlib.Core.List.{[]}
 use Rattle.mesh.specs.Mesh.{Mesh, meshOf, cellCount}
 use Rattle.grid_cells.specs.Build.{IndexLists, indexLists}
 use Rattle.grid_cells.proofs.Early.{sizes-axes, early-sizes, early-13, early-19, early-settings, early-18, early-none}
