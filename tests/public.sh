@@ -1,10 +1,35 @@
 #!/bin/sh
 # tests/public.sh: a public call asks nothing of its caller. Each of those named here has to be there, with an `ensures` and
-# no `requires`; and crate `capi` shows nothing else than such calls.
+# no `requires`; and crate `capi` shows nothing else than such calls. `tests/public.sh --list` names them.
 set -eu
 unset CDPATH
 cd "$(dirname "$0")/.."
 failed=0
+
+# The public calls: a crate, and their names. Those of `capi` are in its header.
+public() {
+    cat <<'END'
+geometry point_point_distance point_line_distance point_circle_distance point_cylinder_distance
+grid_search new
+rows insert
+search search
+listing search_on search_on_place
+listing search_on_line search_on_circle search_on_cylinder
+listing search_on_plane_xy search_on_plane_yz search_on_plane_xz
+files sheet_of_file part_of marks_answer said_of
+grid_cells new
+cell_search search
+mesh_view new count corner grid_cells search build
+END
+    # shellcheck disable=SC2046
+    echo capi $(sed -n 's/^uint64_t \(gemlab_[a-z_]*\)(.*/\1/p' include/gemlab.h)
+}
+
+# For tests/believed.sh: a line for each, crate and name.
+if [ "${1:-}" = --list ]; then
+    public | awk '{ for (i = 2; i <= NF; i++) print $1, $i }'
+    exit
+fi
 
 # A line for each public function in these files: its name, and what stands in front of its body, `requires` or `ensures`.
 contracts() {
@@ -115,23 +140,15 @@ contracts "$work/example.rt" | diff "$work/expected" - || {
     echo "public: an example is read otherwise" && failed=1
 }
 
-asks_nothing geometry point_point_distance point_line_distance point_circle_distance point_cylinder_distance
-asks_nothing grid_search new
-asks_nothing rows insert
-asks_nothing search search
-asks_nothing listing search_on search_on_place
-asks_nothing listing search_on_line search_on_circle search_on_cylinder
-asks_nothing listing search_on_plane_xy search_on_plane_yz search_on_plane_xz
-asks_nothing files sheet_of_file part_of marks_answer said_of
-asks_nothing grid_cells new
-asks_nothing cell_search search
-asks_nothing mesh_view new count corner grid_cells search build
-calls=$(sed -n 's/^uint64_t \(gemlab_[a-z_]*\)(.*/\1/p' include/gemlab.h)
-# shellcheck disable=SC2086
-asks_nothing capi $calls
+while read -r crate names; do
+    # shellcheck disable=SC2086
+    asks_nothing "$crate" $names
+done <<END
+$(public)
+END
 others=$(contracts crates/capi/src/*.rt | sed 's/ .*//' | grep -v '^gemlab_' || :)
 shown=$(contracts crates/capi/src/*.rt | grep -c '^gemlab_')
-if [ -n "$others" ] || [ "$(echo "$calls" | wc -l)" -ne 10 ] || [ "$shown" -ne 10 ]; then
+if [ -n "$others" ] || [ "$(public | sed -n 's/^capi //p' | wc -w)" -ne 10 ] || [ "$shown" -ne 10 ]; then
     echo "public: capi shows other calls than the ten of its header: $shown, and $others" && failed=1
 fi
 [ "$failed" -eq 0 ] && echo "public: every public call promises something and asks nothing"

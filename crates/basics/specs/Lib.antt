@@ -1,6 +1,3 @@
--- What every layer's definitions share: tests, lists, and the refusals in their order.
-pub mod Bools
+-- What every layer's definitions share: lists, and the refusals in their order.
 pub mod Lists
-pub mod Laws
 pub mod Refusals
-pub mod Stores

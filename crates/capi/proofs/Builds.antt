@@ -9,8 +9,9 @@ use lib.Dec.{eqb}
 use lib.ListN.{length, take, drop}
 use lib.Ieee.{Float}
 use borrow.Author.Tests.{eqb-true, not-false}
-use Rattle.basics.specs.Bools.{and-both}
-use Rattle.basics.specs.Refusals.{Test, Answer, refused, success, through, fault, fault-left, fault-right, fault-stop, code, code-some, code-none, unrefused}
+use Rattle.basics.proofs.Bools.{and-both}
+use Rattle.basics.specs.Refusals.{Test, Answer, refused, success, through, fault, code}
+use Rattle.basics.proofs.Refusals.{fault-left, fault-right, fault-stop, code-some, code-none, unrefused}
 use Rattle.mesh.specs.Mesh.{Mesh}
 use Rattle.cell_sizes.specs.declared.Settings.{Settings}
 use Rattle.cell_sizes.specs.Large.{measure}

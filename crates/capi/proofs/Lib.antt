@@ -3,3 +3,4 @@ mod Builds
 mod Indexes
 mod Libraries
 mod Listings
+mod SheetLaws

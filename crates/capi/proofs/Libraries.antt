@@ -11,8 +11,8 @@ use Rattle.basics.specs.Refusals.{Answer, refused, success, through, fault}
 use Rattle.grid_search.specs.declared.GridSearch.{GridSearch}
 use Rattle.rows.specs.declared.Inserted.{Inserted}
 use Rattle.rows.specs.declared.Inserted.the-variants.{Stored, Refused}
-use Rattle.rows.specs.Library.{Library, library, table, write, Turn}
-use Rattle.rows.specs.Insert.{rowsWith, insertTests, settle, insertion, Gives}
+use Rattle.table.specs.Library.{Library, library, table, write}
+use Rattle.rows.specs.Insert.{Turn, rowsWith, insertTests, settle, insertion, Gives}
 use Rattle.capi.specs.Answers.{number, written}
 use Rattle.capi.specs.Libraries.{ToldTurn, flag, idAfter, ToldFound}
 

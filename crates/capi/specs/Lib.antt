@@ -1,8 +1,6 @@
 -- What the C interface adds to the definitions of the calls: an answer as a number and a value that is written, and a sheet in two lists.
 pub mod Answers
 pub mod Sheets
--- Laws of these.
-pub mod SheetLaws
 -- Libraries, listings, and the cell index in two lists.
 pub mod Libraries
 pub mod Lists

@@ -6,7 +6,7 @@ use mathlib.Core.Option.{Option, none, some}
 use mathlib.Core.List.{List}
 use lib.Ieee.{Float}
 use Rattle.basics.specs.Refusals.{Answer, refused, success, through}
-use Rattle.rows.specs.Library.{Turn}
+use Rattle.rows.specs.Insert.{Turn}
 use Rattle.capi.specs.Answers.{number, written}
 
 -- an insertion: the five lists and the used count are those of the library that the call leaves

@@ -94,6 +94,9 @@ pub record ToldSheet (x : Answer GridSearch) (r : ℕ) (numbers numbers' : List 
 
 -- ---- how a sheet is read
 
+abbrev pub origin : Position
+origin = record { x = zeroF; y = zeroF; z = zeroF }
+
 -- a flag is 0 or 1, and with 0 the entry is 0
 abbrev pub numberRead : ℕ → ℕ → Bool
 numberRead flag n = eqb flag 1 || (eqb flag 0 && eqb n 0)
@@ -130,26 +133,7 @@ readSheet numbers floats = record {
   radius = getD floats 16 nan;
 }
 
--- what stands for damaged lists: a sheet of dimension 0, which no call takes for good
-abbrev pub origin : Position
-origin = record { x = zeroF; y = zeroF; z = zeroF }
-
-abbrev pub noSheet : GridSearch
-noSheet = record {
-  ndim = 0;
-  low = origin;
-  high = origin;
-  number = number.LeftOut;
-  tolerance = float.LeftOut;
-  «border_tol» = float.LeftOut;
-  ndiv = record { x = 0; y = 0; z = 0 };
-  xmin = origin;
-  xmax = origin;
-  «side_length» = zeroF;
-  «tol_dist» = zeroF;
-  radius = zeroF;
-}
-
+-- for lists that are not readable stands what empty ones hold: a sheet of dimension 0, which no call takes for good
 unfoldable pub sheetOf : List ℕ → List Float → GridSearch
 unfolding readable readSheet
-sheetOf numbers floats = cond (readable numbers floats) (readSheet numbers floats) noSheet
+sheetOf numbers floats = cond (readable numbers floats) (readSheet numbers floats) (readSheet [] [])

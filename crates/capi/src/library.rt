@@ -1,6 +1,6 @@
 // A library of marks on a sheet: insertion and search.
 ghost use mathlib.Core.Path.{_≡_};
-ghost use Rattle.rows.specs.Library.{library};
+ghost use Rattle.table.specs.Library.{library};
 ghost use Rattle.rows.specs.Insert.{insertion};
 ghost use Rattle.search.specs.Search.{searchAnswer};
 ghost use Rattle.capi.specs.Sheets.{sheetOf};

@@ -1,9 +1,10 @@
 // The sheet, in a list of 8 numbers and a list of 17 floats.
 ghost use Prim.Native.Nat.{_+_, _<_};
 ghost use mathlib.Core.Path.{_≡_};
+ghost use mathlib.Core.List.{[]};
 ghost use lib.ListN.{length};
 ghost use Rattle.capi.specs.Sheets.{givenNumber, givenFloat, numberFlag, numberEntry, floatFlag, floatEntry, numbersOf, floatsOf};
-ghost use Rattle.capi.specs.Sheets.{newInC, ToldSheet, numberRead, floatRead, readable as readableOf, positionAt, readSheet, noSheet, sheetOf};
+ghost use Rattle.capi.specs.Sheets.{newInC, ToldSheet, numberRead, floatRead, readable as readableOf, positionAt, readSheet, sheetOf};
 use geometry::Position;
 use grid::Divisions;
 use grid_search::GivenF64;
@@ -227,28 +228,29 @@ fn read_sheet(numbers: &[u64], floats: &[f64]) -> GridSearch
     }
 }
 
-// What stands for damaged lists: a sheet of dimension 0, which no call takes for good.
+// What stands for damaged lists, and is what empty ones hold: a sheet of dimension 0, which no call takes for good.
 fn no_sheet() -> GridSearch
-    ensures { λ r. ⌜ r ≡ noSheet ⌝ }
+    ensures { λ r. ⌜ r ≡ readSheet [] [] ⌝ }
 {
-    let origin = Position {
-        x: 0.0,
-        y: 0.0,
-        z: 0.0,
+    let nan = 0.0 / 0.0;
+    let nowhere = Position {
+        x: nan,
+        y: nan,
+        z: nan,
     };
     GridSearch {
         ndim: 0,
-        low: origin,
-        high: origin,
+        low: nowhere,
+        high: nowhere,
         number: GivenU64::LeftOut,
         tolerance: GivenF64::LeftOut,
         border_tol: GivenF64::LeftOut,
         ndiv: Divisions { x: 0, y: 0, z: 0 },
-        xmin: origin,
-        xmax: origin,
-        side_length: 0.0,
-        tol_dist: 0.0,
-        radius: 0.0,
+        xmin: nowhere,
+        xmax: nowhere,
+        side_length: nan,
+        tol_dist: nan,
+        radius: nan,
     }
 }
 

@@ -16,8 +16,8 @@ use Rattle.grid_search.specs.declared.Made.{Made}
 use Rattle.grid_search.specs.Sheet.{made, sheetOk}
 use Rattle.rows.specs.declared.Inserted.{Inserted}
 use Rattle.rows.specs.declared.Inserted.the-variants as insert
-use Rattle.rows.specs.Library.{Library, library, Turn}
-use Rattle.rows.specs.Insert.{inserted, Gives}
+use Rattle.table.specs.Library.{Library, library}
+use Rattle.rows.specs.Insert.{Turn, inserted, Gives}
 use Rattle.display.specs.Display.{refusal}
 use Rattle.loading.specs.Loading.{sheetIn, insertBytes}
 use Rattle.loading.proofs.Chunks.{in-parts, stored-whole}

@@ -14,7 +14,7 @@ use Rattle.grid_search.specs.declared.GridSearch.{GridSearch}
 use Rattle.grid_search.specs.Sheet.{made, sheetOk}
 use Rattle.rows.specs.declared.Inserted.{Inserted}
 use Rattle.rows.specs.declared.Inserted.the-variants as insert
-use Rattle.rows.specs.Library.{Library}
+use Rattle.table.specs.Library.{Library}
 use Rattle.rows.specs.Insert.{inserted, Gives}
 use Rattle.loading.specs.Loading.{sheetIn, insertBytes}
 use Rattle.outcome.specs.Outcome.{afterSheet, printed}

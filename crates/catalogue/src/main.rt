@@ -9,7 +9,7 @@ ghost use mathlib.Core.Path.{_≡_};
 ghost use mathlib.Core.Bool.{true};
 ghost use Rattle.basics.specs.Refusals.{success};
 ghost use Rattle.grid_search.specs.Sheet.{made, sheetOk};
-ghost use Rattle.rows.specs.Library.{library};
+ghost use Rattle.table.specs.Library.{library};
 ghost use Rattle.catalogue.specs.Files.{SheetRead, MarksRead, PartRead, GoodSheet, Judged, Printed};
 use files::Part;
 use grid_search::GridSearch;

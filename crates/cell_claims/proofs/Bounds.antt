@@ -15,18 +15,18 @@ use lib.Ieee.Fits.{up-pos, down-pos, round-fits}
 use lib.Ieee.Exact.{HasValue}
 use lib.Ieee.Order.{round-mono}
 use borrow.Author.Tests.{ltb-true, ltb-false, eqb-true, lt-ltb, le-ltb}
-use Rattle.basics.specs.Bools.{by-test, and-left, and-right, or-either}
+use Rattle.basics.proofs.Bools.{by-test, and-left, and-right, or-either}
 use Rattle.basics.specs.Lists.{all, zipWith}
 use Rattle.floats.specs.Rounded.{_⊕_, _⊖_, _⊗_, _⊘_, ofNat, truncate, zeroF, pow2, pow2⁻}
 use Rattle.floats.specs.Tests.{finite}
 use Rattle.floats.specs.Ceil.{ceilOf}
-use Rattle.floats.specs.Least.{ceil-least}
-use Rattle.floats.specs.Order.{le-cross}
-use Rattle.floats.specs.Upto.{Upto, upto-more, unsigned-above, sub-unsigned, round-upto, add-upto, sub-upto, mul-upto, nat-upto, truncate-upto}
+use Rattle.floats.proofs.Least.{ceil-least}
+use Rattle.floats.proofs.Order.{le-cross}
+use Rattle.floats.proofs.Upto.{Upto, upto-more, unsigned-above, sub-unsigned, round-upto, add-upto, sub-upto, mul-upto, nat-upto, truncate-upto}
 use Rattle.grid.specs.Divisions.{division}
-use Rattle.grid.specs.Bounds.{first-of, rest-of}
+use Rattle.grid.proofs.Bounds.{first-of, rest-of}
 use Rattle.grid_search.specs.Sheet.{coveredOf}
-use Rattle.grid_search.specs.Sizes.{Sized}
+use Rattle.grid_search.proofs.Sizes.{AllUpto}
 use Rattle.grid_cells.specs.Build.{cellDivisions}
 
 -- ---- values from 0 on, and from 2 ^ -19 on
@@ -218,8 +218,8 @@ reach (fin s m e) (fin false (suc p) f) (suc (suc k)) u v h q a b =
     (nat-upto (suc (suc k)) (omega arith))
 
 -- ---- the high corner of the containers
-pub covered-bounded : (side : Float) (xmin xmax : List Float) → Upto 2099200 side → le (pow2⁻ 19) side ≡ true → Sized 1049600 xmin → Sized 1049600 xmax
-    → all division (cellDivisions side xmin xmax) ≡ true → Sized 5248000 (coveredOf side xmin (cellDivisions side xmin xmax))
+pub covered-bounded : (side : Float) (xmin xmax : List Float) → Upto 2099200 side → le (pow2⁻ 19) side ≡ true → AllUpto 1049600 xmin → AllUpto 1049600 xmax
+    → all division (cellDivisions side xmin xmax) ≡ true → AllUpto 5248000 (coveredOf side xmin (cellDivisions side xmin xmax))
 unfolding cellDivisions coveredOf zipWith
 covered-bounded side [] [] u h a b d = tt
 covered-bounded side [] (y ∷ ys) u h a b d = tt

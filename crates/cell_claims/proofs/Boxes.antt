@@ -11,18 +11,18 @@ use mathlib.Core.List.{List, [], _∷_, map}
 use lib.Dec.{lit≤}
 use lib.ListN.{length, getD}
 use lib.Ieee.{Float, nan, binary64, le, isNan, fits}
-use Rattle.basics.specs.Bools.{by-test, both, and-left, and-both}
-use Rattle.basics.specs.Lists.{all, keep, zipWith, tab}
-use Rattle.basics.specs.Laws.{length-tab, all-at, all-tab}
+use Rattle.basics.proofs.Bools.{by-test, both, and-left, and-both}
+use Rattle.basics.specs.Lists.{all, keep, zipWith, tab, foldFrom}
+use Rattle.basics.proofs.Lists.{length-tab, all-at, all-tab}
 use Rattle.floats.specs.Rounded.{zeroF, pow2}
 use Rattle.floats.specs.Tests.{finite, minOf, maxOf}
-use Rattle.floats.specs.Choice.{min-either, max-either, min-left, max-left, within-finite}
-use Rattle.floats.specs.Order.{le-join, le-self}
-use Rattle.floats.specs.Upto.{Upto, within-upto, sub-upto}
+use Rattle.floats.proofs.Choice.{min-either, max-either, min-left, max-left, within-finite}
+use Rattle.floats.proofs.Order.{le-join, le-self}
+use Rattle.floats.proofs.Upto.{Upto, within-upto, sub-upto}
 use Rattle.geometry.specs.Position.{coordinate}
 use Rattle.geometry.specs.Distances.{from}
-use Rattle.grid_search.specs.Sheet.{largestFrom, largest}
-use Rattle.grid_search.specs.Sizes.{finite-number}
+use Rattle.grid_search.specs.Sheet.{largest}
+use Rattle.grid_search.proofs.Sizes.{finite-number}
 use Rattle.mesh.specs.Mesh.{Mesh, Box, Whole, cellCount, pointCount, pointAt, cornerPoints, foldPoints, least, greatest, boxOf, longestSide}
 use Rattle.mesh.proofs.Whole.{corner-in, names-point, point-in, length-point, corners-tab}
 use Rattle.cell_sizes.specs.Large.{boxes, longestOf}
@@ -172,8 +172,8 @@ no-size = record { most = lit≤ tt; least = refl }
 larger : (a b : Float) → Size a → Size b → Size (maxOf a b)
 larger a b h k = elim (max-either a b) [ inl e ↦ subst Size (sym e) h | inr e ↦ subst Size (sym e) k ]
 
-largest-from : (a : Float) (xs : List Float) → Size a → Each Size xs → Size (largestFrom a xs)
-unfolding largestFrom
+largest-from : (a : Float) (xs : List Float) → Size a → Each Size xs → Size (foldFrom maxOf a xs)
+unfolding foldFrom
 largest-from a [] h k = h
 largest-from a (x ∷ xs) h k = largest-from (maxOf a x) xs (larger a x h (k .0)) (k .1)
 

@@ -9,12 +9,12 @@ use lib.Dec.{ltb}
 use lib.ListN.{length, drop}
 use lib.Ieee.{Float}
 use borrow.Author.Tests.{lt-ltb}
-use Rattle.basics.specs.Bools.{by-test, both, and-both, or-left, or-right}
+use Rattle.basics.proofs.Bools.{by-test, both, and-both, or-left, or-right}
 use Rattle.basics.specs.Lists.{all, any, zipWith, tab, over}
 use Rattle.geometry.specs.Position.{coords}
 use Rattle.grid.specs.Divisions.{counts, division}
 use Rattle.grid.specs.Containers.{ratios, containers}
-use Rattle.grid.specs.Keys.{key-below}
+use Rattle.grid.proofs.Keys.{key-below}
 use Rattle.mesh.specs.Mesh.{Box}
 use Rattle.table.specs.Rows.{Slot, slotted, before, same, chain, sorted, slotAt, slotsOf}
 use Rattle.table.proofs.Order.{before-total}

@@ -13,20 +13,19 @@ use lib.Ieee.Fits.{sub-fits}
 use lib.Ieee.Exact.{HasValue}
 use lib.Ieee.Back.{round-whole}
 use borrow.Author.Tests.{not-true}
-use Rattle.basics.specs.Bools.{by-test, both, and-left, and-right, and-both, or-left, or-right}
+use Rattle.basics.proofs.Bools.{by-test, both, and-left, and-right, and-both, or-left, or-right}
 use Rattle.basics.specs.Lists.{all, zipWith}
 use Rattle.floats.specs.Rounded.{_⊕_, _⊖_, _⊗_, ofNat, zeroF, pow2, pow2⁻}
 use Rattle.floats.specs.Tests.{finite}
-use Rattle.floats.specs.Choice.{within-ends}
-use Rattle.floats.specs.Upto.{Upto, upto-finite, upto-more, upto-within, add-upto, mul-upto, between-upto, nat-upto, unsigned, mul-unsigned}
+use Rattle.floats.proofs.Choice.{within-ends}
+use Rattle.floats.proofs.Upto.{Upto, upto-finite, upto-more, upto-within, add-upto, mul-upto, between-upto, nat-upto, unsigned, mul-unsigned}
 use Rattle.geometry.specs.Position.{coords, positionOf, dimension, coordinate}
-use Rattle.geometry.specs.Axes.{coords-of}
+use Rattle.geometry.proofs.Axes.{coords-of, entries-of}
 use Rattle.grid.specs.Divisions.{counts, division, divisionsOf}
-use Rattle.grid.specs.Bounds.{first-of, rest-of}
-use Rattle.grid.specs.Shares.{counts-of}
+use Rattle.grid.proofs.Bounds.{first-of, rest-of}
 use Rattle.grid_search.specs.Sheet.{lowered, raised, coveredOf}
-use Rattle.grid_search.specs.Sizes.{Sized, coordinates-sized, lowered-sized, raised-sized, above-zero}
-use Rattle.grid_search.specs.Laws.{lowered-length, raised-length}
+use Rattle.grid_search.proofs.Sizes.{AllUpto, coordinates-sized, lowered-sized, raised-sized, above-zero}
+use Rattle.grid_search.proofs.Laws.{lowered-length, raised-length}
 use Rattle.cell_sizes.specs.declared.Settings.{Settings}
 use Rattle.grid_cells.specs.declared.GridCells.{GridCells}
 use Rattle.grid_cells.specs.Build.{finiteSettings, pastLimits, settingsOk, cellDivisions}
@@ -77,7 +76,7 @@ sided t longest l s =
     }
 
 -- ---- the corners
-sized-limit : (n : ℕ) (xs : List Float) → n ≤ 16777216 → Sized n xs → all cornerLimit xs ≡ true
+sized-limit : (n : ℕ) (xs : List Float) → n ≤ 16777216 → AllUpto n xs → all cornerLimit xs ≡ true
 unfolding all
 sized-limit n [] h s = refl
 sized-limit n (x ∷ xs) h s = both (upto-within 24 x (upto-more n 16777216 x h (s .0))) (sized-limit n xs h (s .1))
@@ -121,7 +120,7 @@ unfolding ofInt
 nat-unsigned n h = value-unsigned (ofNat n) n 1 (round-whole binary64 false n h)
 
 -- the low corner is not above the high one
-ordered-covered : (side : Float) (xmin : List Float) (ns : List ℕ) → Sided side → all (fits binary64) xmin ≡ true → Sized 1049600 xmin → all division ns ≡ true → ordered xmin (coveredOf side xmin ns) ≡ true
+ordered-covered : (side : Float) (xmin : List Float) (ns : List ℕ) → Sided side → all (fits binary64) xmin ≡ true → AllUpto 1049600 xmin → all division ns ≡ true → ordered xmin (coveredOf side xmin ns) ≡ true
 unfolding ordered coveredOf zipWith all
 ordered-covered side [] ns s f z d = refl
 ordered-covered side (x ∷ xs) [] s f z d = refl
@@ -182,7 +181,7 @@ module _ (g : GridCells) (n : ℕ) (border side : Float) (low high : List Float)
 
   pub framed : Framed g n xs ns
   framed = record {
-    divisions = rw (p .ndim, p .ndiv) (counts-of n ns axes ns-length);
+    divisions = rw (p .ndim, p .ndiv) (entries-of 1 n ns axes ns-length);
     divisions-length = ns-length;
     xmin = rw (p .ndim) (coords-of n xs (g .xmin) axes xs-length (p .xmin));
     xmin-length = xs-length;

@@ -14,14 +14,14 @@ use lib.Ieee.Fits.{down-pos, round-is, round-fits}
 use lib.Ieee.Exact.{round-exact}
 use lib.Ieee.Order.{round-mono}
 use borrow.Author.Tests.{ltb-false, eq-eqb}
-use Rattle.basics.specs.Bools.{by-test}
+use Rattle.basics.proofs.Bools.{by-test}
 use Rattle.floats.specs.Rounded.{_⊕_, zeroF}
 use Rattle.floats.specs.Tests.{finite}
-use Rattle.floats.specs.Held.{held}
-use Rattle.floats.specs.Exact.{in-units}
-use Rattle.floats.specs.Unique.{value-unique}
-use Rattle.floats.specs.Order.{le-cross, le-join}
-use Rattle.floats.specs.Upto.{unsigned}
+use Rattle.floats.proofs.Held.{fits-held}
+use Rattle.floats.proofs.Exact.{in-units}
+use Rattle.floats.proofs.Unique.{value-unique}
+use Rattle.floats.proofs.Order.{le-cross, le-join}
+use Rattle.floats.proofs.Upto.{unsigned}
 
 -- ---- a value that binary64 holds is its own rounding
 own : (s : Bool) (m : ℕ) (e : ℤ) → T (fits binary64 (fin s m e)) → round binary64 s (m * up e) (down e) ≡ fin s m e
@@ -30,7 +30,7 @@ own s zero e h =
     (round-exact binary64 s (0 * up e) (down e) 0 0 (down-pos e) (pow-pos 53) (pow-pos (1074 + 1024)) (ap (λ (z : ℕ). z * 2 ^ 1074) (zero-mul (up e)) ∙ zero-mul (2 ^ 1074) ∙ sym (zero-mul (down e))))
     (refl, refl)
 own s (suc m) e h =
-    let k = held binary64 s m e h in
+    let k = fits-held binary64 s m e h in
     let u = in-units 1074 (suc m) e (k .deep) in
     value-unique binary64 (round binary64 s (suc m * up e) (down e)) (fin s (suc m) e) s (suc m * up e) (down e) (down-pos e) (round-fits binary64 s (suc m * up e) (down e)) h
     (round-exact binary64 s (suc m * up e) (down e) (suc m) (u .0) (down-pos e) (k .digits) (below-top (suc m * 2 ^ u .0) (suc m * up e) (down e) (down-pos e) (u .1) (k .bound)) (u .1))

@@ -10,12 +10,13 @@ use lib.Dec.{ltb, eqb}
 use lib.ListN.{length, length-map}
 use lib.Ieee.{Float, binary64, fits, lt, le}
 use borrow.Author.Tests.{not-false, eqb-true, eqb-false, ltb-false, le-leb, eq-eqb, lt-ltb}
-use Rattle.basics.specs.Bools.{by-test, both, and-both, or-left, or-right}
+use Rattle.basics.proofs.Bools.{by-test, both, and-both, or-left, or-right}
 use Rattle.basics.specs.Lists.{all, any, keep, over}
-use Rattle.basics.specs.Refusals.{fault, Passed, unrefused, Answer, refused, success}
+use Rattle.basics.specs.Refusals.{fault, Answer, refused, success}
+use Rattle.basics.proofs.Refusals.{Passed, unrefused}
 use Rattle.floats.specs.Rounded.{zeroF}
 use Rattle.geometry.specs.Position.{coords, dimension, coordinate}
-use Rattle.grid_search.specs.Sheet.{above}
+use Rattle.grid_search.specs.Sheet.{inOrder}
 use Rattle.grid.specs.Divisions.{counts, division}
 use Rattle.grid.specs.Containers.{containers}
 use Rattle.mesh.specs.Mesh.{Mesh, Box, Whole, cellCount, meshTooLong, brokenMesh, least, greatest}
@@ -72,7 +73,7 @@ accepted n m t l e = go (unrefused (buildTests n m t l) e)
           tolerated = q .1 .0;
           bordered = q .1 .1 .0;
           some-cells = eqb-false (cellCount n m) 0 (q .1 .1 .1 .1 .1 .0);
-          divisions = divided (counts n (k .grid .ndiv)) (or-right (not (above (lowCorner w t) (highCorner w t))) (any (λ (d : ℕ). eqb d 0) (counts n (k .grid .ndiv))) (r .0)) (r .1 .0);
+          divisions = divided (counts n (k .grid .ndiv)) (or-right (not (inOrder (lowCorner w t) (highCorner w t))) (any (λ (d : ℕ). eqb d 0) (counts n (k .grid .ndiv))) (r .0)) (r .1 .0);
           inside = r .1 .1 .0;
           rows-fit = ltb-false (length (l .keys)) (length (k .rows)) (or-left (ltb (length (l .keys)) (length (k .rows))) (ltb (length (l .large)) (length (k .large))) (r .1 .1 .1 .0));
           large-fit = ltb-false (length (l .large)) (length (k .large)) (or-right (ltb (length (l .keys)) (length (k .rows))) (ltb (length (l .large)) (length (k .large))) (r .1 .1 .1 .0));

@@ -12,18 +12,18 @@ use lib.ListN.{length, take, drop, set, length-set, drop-of-length-le}
 use lib.Seq.{take-suc-set}
 use lib.Ieee.{Float}
 use borrow.Author.Tests.{lt-ltb}
-use Rattle.basics.specs.Bools.{by-test, both, and-left, and-right}
+use Rattle.basics.proofs.Bools.{by-test, both, and-left, and-right}
 use Rattle.basics.specs.Lists.{all, any, has}
-use Rattle.basics.specs.Laws.{length-tab, drop-tab}
+use Rattle.basics.proofs.Lists.{length-tab, drop-tab}
 use Rattle.geometry.specs.declared.Position.{Position}
 use Rattle.geometry.specs.Position.{coords, dimension}
-use Rattle.geometry.specs.Axes.{for-axes, coords-length}
+use Rattle.geometry.proofs.Axes.{for-axes, coords-length}
 use Rattle.grid.specs.declared.ContainerKey.{ContainerKey}
 use Rattle.grid.specs.declared.Located.the-variants.{Key, Exceeds}
 use Rattle.grid.specs.Divisions.{counts, divisionsOf}
 use Rattle.grid.specs.Containers.{ratios}
-use Rattle.grid.specs.InUse.{few-containers}
-use Rattle.grid.specs.Keys.{key-below}
+use Rattle.grid.proofs.InUse.{few-containers}
+use Rattle.grid.proofs.Keys.{key-below}
 use Rattle.mesh.specs.declared.BoundingBox.{BoundingBox}
 use Rattle.mesh.specs.Mesh.{Box, boxed}
 use Rattle.cell_rows.specs.declared.Containers.{Containers}

@@ -9,7 +9,7 @@ use mathlib.Core.List.{List, [], _++_, map}
 use lib.ListN.{length, getD, take, drop, set, length-append, length-drop, length-map, List·getD-map}
 use lib.Seq.{paste, paste-suc, take-at, drop-at, length-take-le, take-suc, drop-cons, set-at, append-snoc, drop-drop, take-add, getD-at}
 use Rattle.basics.specs.Lists.{over}
-use Rattle.basics.specs.Laws.{map-take}
+use Rattle.basics.proofs.Lists.{map-take}
 
 module _ {A : Type 0} where
   pub take-over : (new old : List A) (n : ℕ) → length new ≡ n → take n (over new old) ≡ new

@@ -10,9 +10,9 @@ use mathlib.Core.Option.{none, some}
 use mathlib.Core.List.{List, [], _∷_, _++_, map}
 use lib.ListN.{length, getD, take, drop, set, length-append, length-map, length-drop}
 use lib.Seq.{paste, length-take-le, drop-drop, take-length, getD-drop, drop-at, take-at}
-use Rattle.basics.specs.Bools.{by-test, clash}
+use Rattle.basics.proofs.Bools.{by-test, clash}
 use Rattle.basics.specs.Lists.{all, any, over}
-use Rattle.basics.specs.Laws.{map-take}
+use Rattle.basics.proofs.Lists.{map-take}
 use Rattle.mesh.specs.Mesh.{Mesh, Box, cellCount, boxOf}
 use Rattle.sorting.specs.Sorted.{sortedOf}
 use Rattle.sorting.proofs.Orders.{length-sorted}

@@ -11,14 +11,15 @@ use lib.ListN.{length, getD, take}
 use lib.Seq.{getD-take, length-take-le}
 use lib.Ieee.{Float}
 use borrow.Author.Tests.{ltb-true, leb-true, eqb-true, not-false}
-use Rattle.basics.specs.Bools.{and-both, and-right}
+use Rattle.basics.proofs.Bools.{and-both, and-right}
 use Rattle.basics.specs.Lists.{all, tab}
-use Rattle.basics.specs.Laws.{length-tab, getD-tab, all-at}
-use Rattle.basics.specs.Refusals.{Test, refuse, fault, code, Passed, unrefused, fault-stop, fault-right, code-some, code-none}
+use Rattle.basics.proofs.Lists.{length-tab, getD-tab, all-at}
+use Rattle.basics.specs.Refusals.{Test, refuse, fault, code}
+use Rattle.basics.proofs.Refusals.{Passed, unrefused, fault-stop, fault-right, code-some, code-none}
 use Rattle.floats.specs.Rounded.{zeroF}
 use Rattle.geometry.specs.declared.Position.{Position}
 use Rattle.geometry.specs.Position.{coords, positionOf, dimension}
-use Rattle.geometry.specs.Axes.{coords-of}
+use Rattle.geometry.proofs.Axes.{coords-of}
 use Rattle.grid.specs.Divisions.{counts}
 use Rattle.grid.specs.Containers.{containers}
 use Rattle.mesh.specs.Mesh.{Mesh, meshOf, cellCount, Whole}

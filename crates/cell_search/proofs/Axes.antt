@@ -11,7 +11,7 @@ use lib.Ieee.{Float, lt, le}
 use Rattle.geometry.specs.declared.Position.{Position}
 use Rattle.basics.specs.Lists.{all, zipWith}
 use Rattle.geometry.specs.Position.{coords, positionOf, axisOf, dimension}
-use Rattle.geometry.specs.Axes.{axis-at, coords-length, coords-of}
+use Rattle.geometry.proofs.Axes.{axis-at, coords-length, coords-of}
 use Rattle.grid.specs.Containers.{outside}
 use Rattle.grid_cells.specs.declared.GridCells.{GridCells}
 use Rattle.cell_search.specs.Search.{ordered}

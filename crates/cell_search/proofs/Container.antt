@@ -13,9 +13,9 @@ use lib.ListN.{length, take, drop}
 use lib.Seq.{slice, take-take}
 use lib.Ieee.{Float}
 use borrow.Author.Tests.{eqb-true, eqb-false, ne-eqb, leb-true, leb-false}
-use Rattle.basics.specs.Bools.{by-test, clash, and-both}
+use Rattle.basics.proofs.Bools.{by-test, clash, and-both}
 use Rattle.basics.specs.Lists.{keep, tab}
-use Rattle.basics.specs.Laws.{length-tab, map-tab, map-take, map-drop, tab-take}
+use Rattle.basics.proofs.Lists.{length-tab, map-tab, map-take, map-drop, tab-take}
 use Rattle.basics.specs.Refusals.{success}
 use Rattle.mesh.specs.Mesh.{Mesh}
 use Rattle.table.specs.Rows.{Slot, slotted, before, chain, sorted, lower, slotAt, slotsOf}

@@ -10,9 +10,9 @@ use lib.Dec.{ltb}
 use lib.ListN.{length, getD, take, drop, drop-of-length-le}
 use lib.Ieee.{le}
 use borrow.Author.Tests.{eq-eqb, ne-eqb, le-leb, lt-leb}
-use Rattle.basics.specs.Bools.{and-left, and-right}
+use Rattle.basics.proofs.Bools.{and-left, and-right}
 use Rattle.basics.specs.Lists.{all, tab}
-use Rattle.basics.specs.Laws.{length-tab, drop-tab, tab-take}
+use Rattle.basics.proofs.Lists.{length-tab, drop-tab, tab-take}
 use Rattle.table.specs.Rows.{Slot, before, chain, slotsOf, sorted}
 use Rattle.floats.specs.Rounded.{pow2, pow2⁻}
 use Rattle.geometry.specs.Position.{coords}

@@ -13,7 +13,8 @@ use Rattle.basics.specs.Refusals.{Test, refuse}
 use Rattle.geometry.specs.Position.{coords, dimension, coordinate}
 use Rattle.grid.specs.Containers.{outside}
 use Rattle.mesh.specs.Mesh.{Mesh, cellCount, meshTooLong, brokenMesh}
-use Rattle.table.specs.Rows.{Slot, slotsOf, sorted, Ordered}
+use Rattle.table.specs.Rows.{Slot, slotsOf, sorted}
+use Rattle.table.specs.Posts.{Ordered}
 use Rattle.grid_cells.specs.declared.GridCells.{GridCells}
 use Rattle.grid_cells.specs.Build.{Lent, lentTooLong}
 use Rattle.cell_search.specs.declared.Span.{Span}

@@ -5,7 +5,7 @@ use native.Mathlib.Numerals.{add-one}
 use mathlib.Core.Path.{_≡_, sym, ap, _∙_}
 use mathlib.Core.List.{[], _∷_}
 use lib.ListN.{length, drop, drop-of-length-le}
-use Rattle.basics.specs.Laws.{length-tab, drop-tab}
+use Rattle.basics.proofs.Lists.{length-tab, drop-tab}
 use Rattle.mesh.specs.Mesh.{Mesh, cellCount, boxOf}
 use Rattle.cell_sizes.specs.Large.{boxes}
 

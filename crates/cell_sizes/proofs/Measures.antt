@@ -10,12 +10,12 @@ use lib.Dec.{eqb}
 use lib.ListN.{length, drop}
 use lib.Ieee.{Float, le}
 use borrow.Author.Tests.{eqb-true, eqb-false}
-use Rattle.basics.specs.Bools.{by-test}
-use Rattle.basics.specs.Lists.{keep}
+use Rattle.basics.proofs.Bools.{by-test}
+use Rattle.basics.specs.Lists.{keep, foldFrom}
 use Rattle.floats.specs.Rounded.{_⊗_, _⊘_, ofNat, zeroF}
 use Rattle.floats.specs.Tests.{minOf, maxOf}
 use Rattle.geometry.specs.Position.{coords}
-use Rattle.grid_search.specs.Sheet.{largestFrom, largest}
+use Rattle.grid_search.specs.Sheet.{largest}
 use Rattle.mesh.specs.declared.BoundingBox.{BoundingBox}
 use Rattle.mesh.specs.Mesh.{Mesh, Box, cellCount, boxOf, boxed, joinedBox, foldPoints, least, greatest, longestSide}
 use Rattle.cell_sizes.specs.declared.Settings.{Settings}
@@ -37,7 +37,7 @@ highs bs = map (λ (b : Box). b .high) bs
 pub record Passed (n : ℕ) (m : Mesh) (c : ℕ) (e : Extent) : Type 0 where
   pub low : least (map (λ (b : Box). b .low) (boxes n m)) ≡ foldPoints minOf (coords n (e .limits .low)) (map (λ (b : Box). b .low) (drop c (boxes n m)))
   pub high : greatest (map (λ (b : Box). b .high) (boxes n m)) ≡ foldPoints maxOf (coords n (e .limits .high)) (map (λ (b : Box). b .high) (drop c (boxes n m)))
-  pub largest : longestOf (boxes n m) ≡ largestFrom (e .largest) (map longestSide (drop c (boxes n m)))
+  pub largest : longestOf (boxes n m) ≡ foldFrom maxOf (e .largest) (map longestSide (drop c (boxes n m)))
 
 module _ (n : ℕ) (m : Mesh) where
   pub extent-start : (b : BoundingBox) (l : Float) → 0 < cellCount n m → boxed n b ≡ boxOf n m 0 → l ≡ longestSide (boxed n b) → Passed n m 1 (record { limits = b; largest = l })
@@ -51,7 +51,7 @@ module _ (n : ℕ) (m : Mesh) where
       }
 
   pub extent-next : (c : ℕ) (e r : Extent) (b : BoundingBox) → c < cellCount n m → Passed n m c e → boxed n b ≡ boxOf n m c → Widened n e b r → Passed n m (c + 1) r
-  unfolding foldPoints largestFrom joinedBox
+  unfolding foldPoints foldFrom joinedBox
   extent-next c e r b h p f w =
       let g : drop c (boxes n m) ≡ boxed n b ∷ drop (c + 1) (boxes n m) = boxes-next n m c h ∙ rw f in
       record {
@@ -61,7 +61,7 @@ module _ (n : ℕ) (m : Mesh) where
       }
 
   pub extent-end : (c : ℕ) (e : Extent) → cellCount n m ≤ c → Passed n m c e → Around n m e
-  unfolding foldPoints largestFrom
+  unfolding foldPoints foldFrom
   extent-end c e h p = record {
     low = sym (p .low ∙ rw (boxes-end n m c h));
     high = sym (p .high ∙ rw (boxes-end n m c h));
@@ -78,7 +78,7 @@ large-by limit l b {t} e h = subst (λ (x : Float). le limit x ≡ t) e h
 -- the largest of those passed, if there are any, and of the rest
 unfoldable pub after : ℕ → Float → List Float → Float
 after zero v xs = largest xs
-after (suc k) v xs = largestFrom v xs
+after (suc k) v xs = foldFrom maxOf v xs
 
 abbrev pub isSmall : Float → Box → Bool
 isSmall limit b = not (isLarge limit b)
@@ -94,12 +94,12 @@ unfolding after largest
 first v x xs e = rw e
 
 further : (k : ℕ) (v x : Float) (xs : List Float) → (k ≡ 0 → ⊥) → after k v (x ∷ xs) ≡ after (k + 1) (maxOf v x) xs
-unfolding after largestFrom
+unfolding after foldFrom
 further zero v x xs h = absurd (h refl)
 further (suc k) v x xs h = rw add-one
 
 last : (k : ℕ) (v : Float) → (k ≡ 0 → v ≡ zeroF) → after k v [] ≡ v
-unfolding after largest largestFrom
+unfolding after largest foldFrom
 last zero v h = sym (h refl)
 last (suc k) v h = refl
 

@@ -9,14 +9,16 @@ use lib.Dec.{ltb}
 use lib.ListN.{length}
 use borrow.Author.Tests.{lt-ltb, le-ltb, ltb-false}
 use lib.Ieee.{Float}
-use Rattle.basics.specs.Bools.{or-left}
+use Rattle.basics.proofs.Bools.{or-left}
 use Rattle.basics.specs.Lists.{any, over}
-use Rattle.basics.specs.Refusals.{Test, refuse, fault, code, success, unrefused, fault-stop, fault-right, code-some}
+use Rattle.basics.specs.Refusals.{Test, refuse, fault, code, success}
+use Rattle.basics.proofs.Refusals.{unrefused, fault-stop, fault-right, code-some}
 use Rattle.grid.specs.Divisions.{counts}
 use Rattle.grid_search.specs.declared.GridSearch.{GridSearch}
 use Rattle.table.specs.Rows.{slotsOf}
-use Rattle.table.proofs.Stores.{slots-rows}
-use Rattle.rows.specs.Library.{Library, library, table, tooLong, space, libraryTests}
+use Rattle.table.proofs.Libraries.{slots-rows}
+use Rattle.table.specs.Library.{Library, library, table, tooLong, space}
+use Rattle.rows.specs.Damage.{libraryTests}
 use Rattle.display.specs.Lent.{lent}
 use Rattle.display.specs.declared.Shown.the-variants.{Length, Refused}
 use Rattle.display.specs.Display.{slotsText, displayText, displayTests, showing, Shows}

@@ -9,14 +9,14 @@ use lib.Dec.{ltb, eqb}
 use lib.Arith.{lt-of-le-ne}
 use lib.ListN.{length, getD, length-append, length-map}
 use borrow.Author.Tests.{lt-ltb, ne-eqb, ltb-true, ltb-false, eqb-true, eqb-false}
-use Rattle.basics.specs.Bools.{by-test, both, and-left, and-right}
+use Rattle.basics.proofs.Bools.{by-test, both, and-left, and-right}
 use Rattle.basics.specs.Lists.{all, keep, tab, enter}
-use Rattle.basics.specs.Laws.{length-tab, getD-tab}
+use Rattle.basics.proofs.Lists.{length-tab, getD-tab}
 use Rattle.display.proofs.Kept.{all-by, all-weaker}
 use Rattle.geometry.specs.Position.{dimension}
 use Rattle.grid.specs.declared.Divisions.{Divisions}
 use Rattle.grid.specs.Divisions.{counts, division}
-use Rattle.grid.specs.Bounds.{in-range}
+use Rattle.grid.proofs.Bounds.{in-range}
 use Rattle.table.specs.Rows.{Slot, slotAt, slotsOf}
 use Rattle.sorting.specs.Sorted.{distinct}
 use Rattle.text.specs.Text.{ascii, decimal, entryText, entries, listText}

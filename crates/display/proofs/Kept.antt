@@ -6,7 +6,7 @@ use mathlib.Core.Bool.{Bool, true, false, not, _&&_}
 use mathlib.Core.List.{List, [], _∷_, _++_}
 use lib.ListN.{length, getD}
 use borrow.Author.Tests.{not-true}
-use Rattle.basics.specs.Bools.{by-test, both, and-left, and-right}
+use Rattle.basics.proofs.Bools.{by-test, both, and-left, and-right}
 use Rattle.basics.specs.Lists.{all, keep}
 
 module _ {A : Type 0} where

@@ -11,11 +11,12 @@ use lib.ListN.{length, getD, take, drop, length-take, length-drop, take-append-d
 use lib.Seq.{take-nil, take-take, drop-drop, drop-cons, getD-take, getD-drop}
 use lib.Arith.{lt-of-le-ne}
 use borrow.Author.Tests.{lt-ltb, le-ltb, eq-eqb, ne-eqb, ltb-true, eqb-true}
-use Rattle.basics.specs.Bools.{by-test, clash, both, and-left, and-right}
+use Rattle.basics.proofs.Bools.{by-test, clash, both, and-left, and-right}
 use Rattle.basics.specs.Lists.{all, keep, tab, enter}
-use Rattle.basics.specs.Laws.{length-tab, getD-tab, drop-tab, tab-take, map-tab, map-take, map-drop}
+use Rattle.basics.proofs.Lists.{length-tab, getD-tab, drop-tab, tab-take, map-tab, map-take, map-drop}
 use Rattle.display.proofs.Kept.{all-by, all-weaker, keep-append, keep-all, keep-none}
-use Rattle.table.specs.Rows.{Slot, slotAt, slotsOf, before, chain, sorted, Ordered}
+use Rattle.table.specs.Rows.{Slot, slotAt, slotsOf, before, chain, sorted}
+use Rattle.table.specs.Posts.{Ordered}
 use Rattle.table.proofs.Order.{chain-sorted, sorted-at}
 use Rattle.sorting.specs.Sorted.{distinct}
 use Rattle.display.specs.Posts.{Run}

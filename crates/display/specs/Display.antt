@@ -12,7 +12,8 @@ use Rattle.grid.specs.Divisions.{counts}
 use Rattle.grid_search.specs.declared.GridSearch.{GridSearch}
 use Rattle.table.specs.declared.Row.{Row}
 use Rattle.table.specs.Rows.{Slot, slotOf}
-use Rattle.rows.specs.Library.{Library, table, libraryTests}
+use Rattle.table.specs.Library.{Library, table}
+use Rattle.rows.specs.Damage.{libraryTests}
 use Rattle.sorting.specs.Sorted.{distinct}
 use Rattle.text.specs.Text.{ascii, decimal, listText}
 use Rattle.display.specs.declared.Shown.{Shown}

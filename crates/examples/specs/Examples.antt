@@ -21,10 +21,10 @@ use Rattle.grid_search.specs.declared.GridSearch.{GridSearch}
 use Rattle.grid_search.specs.declared.GivenU64.the-variants as count
 use Rattle.grid_search.specs.declared.GivenF64.the-variants as float
 use Rattle.grid_search.specs.Sheet.{newSheet}
-use Rattle.grid_search.specs.Examples.{S, lowCorner, highCorner}
+use Rattle.grid_search.specs.Examples.{S, lowOfS, highOfS}
 use Rattle.table.specs.Rows.{keyIn, before, same, chain, putRow}
-use Rattle.rows.specs.Library.{Library, Turn, table}
-use Rattle.rows.specs.Insert.{containerOf, insertion}
+use Rattle.table.specs.Library.{Library, table}
+use Rattle.rows.specs.Insert.{Turn, containerOf, insertion}
 use Rattle.search.specs.Search.{searchAnswer}
 
 -- what a line states: floats, numbers, a test's outcome, or a refusal
@@ -89,7 +89,7 @@ belowThree = fin false 12279 (negsuc 11)
 -- S with another tolerance
 withTolerance : Float → Stated
 unfolding ofSheet newSheet
-withTolerance t = ofSheet (newSheet lowCorner highCorner (count.Given 8) (float.Given t) (float.Given zeroF))
+withTolerance t = ofSheet (newSheet lowOfS highOfS (count.Given 8) (float.Given t) (float.Given zeroF))
 
 -- a library with room for n rows and none in use, whatever stands in it
 room : ℕ → Library

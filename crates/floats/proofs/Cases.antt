@@ -12,7 +12,7 @@ use lib.Ieee.Bits.{ofBits-toBits, nanBits-above}
 use lib.Ieee.Fits.{up-pos, and-l}
 use borrow.Author.Tests.{lt-ltb, le-ltb, le-leb}
 use Rattle.floats.specs.Sqrt.{sqrtOf}
-use Rattle.floats.specs.Reading.{fields}
+use Rattle.floats.proofs.Reading.{fields}
 
 abbrev pub zero-of : Float
 zero-of = fin false 0 (pos 0)

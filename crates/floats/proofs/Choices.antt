@@ -11,8 +11,8 @@ use lib.Ieee.Bits.{is-true}
 use lib.Ieee.Fits.{up-pos, and-l}
 use borrow.Author.Tests.{lt-ltb}
 use Rattle.floats.specs.Tests.{absOf, minOf, maxOf, finite}
-use Rattle.floats.specs.Order.{eq-left, eq-self}
-use Rattle.basics.specs.Bools.{which, clash}
+use Rattle.floats.proofs.Order.{eq-left, eq-self}
+use Rattle.basics.proofs.Bools.{which, clash}
 use mathlib.Core.Logic.{_⊎_, inl, inr}
 use Rattle.floats.proofs.Cases.{zero-of, zero-equal, positive-product}
 

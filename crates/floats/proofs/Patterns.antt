@@ -10,9 +10,9 @@ use lib.Count.{leadingZeros, leading-top}
 use lib.Pow.{pow-add, pow-pos, pow-mono}
 use lib.Ieee.{Float, binary64, odd, ofBits}
 use lib.Ieee.Exact.{odd-sign}
-use Rattle.floats.specs.Reading.{read-low, read-mid}
+use Rattle.floats.proofs.Reading.{read-low, read-mid}
 use Rattle.floats.specs.Sqrt.{rootOf, sqrtOf}
-use Rattle.floats.specs.Near.{Near, root-of-near, sqrt-value}
+use Rattle.floats.proofs.Near.{Near, root-of-near, sqrt-value}
 use Rattle.floats.specs.Posts.{Rounded, Written}
 
 -- ---- the root of a value, by its pattern's digits

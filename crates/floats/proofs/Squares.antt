@@ -3,7 +3,7 @@ use mathlib.Core.Path.{_≡_, sym, ap, _∙_, subst}
 use Prim.Native.Nat.{ℕ, suc, _+_, _-_, _*_, _/_, _%_, _^_, _≤_, _<_}
 use native.Mathlib.Nat.{le-of-suc-le-suc, lt-of-not-le, lt-irrefl, mul-comm, mul-right-comm, mul-mul-mul-comm, add-mul, mul-add, mul-le-mul, mul-le-mul-left}
 use native.Mathlib.Omega.{arith}
-use Rattle.floats.specs.Near.{square-suc, square-odd}
+use Rattle.floats.proofs.Near.{square-suc, square-odd}
 use Rattle.floats.specs.Posts.{Rounded}
 
 -- √S is between q - 1/2 and q + 1/2 where q * q - q < S ≤ q * q + q, and then q has 53 digits
@@ -32,11 +32,6 @@ halves : (a b : ℕ) → (a * 2 ^ 27 + b) * (a * 2 ^ 27 + b) ≡ a * a * 2 ^ 54 
 halves a b =
     let A = a * 2 ^ 27 in
     omega (arith, add-mul A b (A + b), mul-add A A b, mul-add b A b, mul-mul-mul-comm a (2 ^ 27) a (2 ^ 27), mul-right-comm a (2 ^ 27) b, mul-comm b A)
-
-square-of : (q : ℕ) → q * q ≡ q / 2 ^ 27 * (q / 2 ^ 27) * 2 ^ 54 + q / 2 ^ 27 * (q % 2 ^ 27) * 2 ^ 28 + q % 2 ^ 27 * (q % 2 ^ 27)
-square-of q =
-    let e : q ≡ q / 2 ^ 27 * 2 ^ 27 + q % 2 ^ 27 = omega arith in
-    ap (λ (x : ℕ). x * x) e ∙ halves (q / 2 ^ 27) (q % 2 ^ 27)
 
 -- the code's f
 pub f-is : (s q a b : ℕ) → a ≡ q / 2 ^ 27 → b ≡ q % 2 ^ 27 → a * a * 4 ≤ s + 8 → a * b ≤ (s + 8 - a * a * 4) * 2 ^ 24 → b * b ≤ ((s + 8 - a * a * 4) * 2 ^ 24 - a * b) * 2 ^ 28 + q

@@ -4,7 +4,7 @@ use Prim.Native.Nat.{ℕ, zero, suc, _+_, _-_, _*_, _/_, _%_, _^_, _≤_, _<_}
 use native.Mathlib.Nat.{le-trans, lt-irrefl, le-of-suc-le-suc, lt-of-not-le, le-mul-of-pos-right, mul-assoc, mul-comm, mul-le-mul, pow-suc, mul-mul-mul-comm}
 use native.Mathlib.Omega.{arith}
 use lib.Pow.{pow-pos}
-use Rattle.floats.specs.Near.{square-suc, square-double, square-odd}
+use Rattle.floats.proofs.Near.{square-suc, square-double, square-odd}
 use Rattle.floats.specs.Posts.{Rounded}
 
 -- ---- the loop

@@ -21,9 +21,6 @@ zero-of = fin false 0 (pos 0)
 abbrev pub two-to : Bool → ℕ → Float
 two-to s k = fin s 1 (pos k)
 
-yes-T : {b : Bool} → b ≡ true → T b
-yes-T e = subst T (sym e) tt
-
 -- ---- `truncated`: from 2 ^ 64 on, and from -1 down
 pub too-large : (x : Float) → lt (two-to true 0) x ≡ true → lt x (two-to false 64) ≡ false → 2 ^ 64 - 1 ≡ toUnsigned 64 x
 unfolding lt toUnsigned

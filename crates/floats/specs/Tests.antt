@@ -1,8 +1,12 @@
 -- What is asked of one float, and the choices between two.
 -- Assumes nothing.
 use mathlib.Core.Bool.{Bool, true, false, cond, _&&_, _||_}
-use lib.Dec.{eqb}
-use lib.Ieee.{Float, nan, inf, fin, binary64, lt, le, eq, isNan, toBits}
+use lib.Dec.{T, eqb}
+use lib.Ieee.{Float, nan, inf, fin, binary64, fits, lt, le, eq, isNan, toBits}
+
+-- x is a value of binary64: what an `f64` holds
+abbrev pub Binary64 : Float → Type 0
+Binary64 x = T (fits binary64 x)
 
 -- the magnitude
 unfoldable pub absOf : Float → Float

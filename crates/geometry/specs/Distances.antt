@@ -6,7 +6,7 @@ use mathlib.Core.List.{List, [], _∷_}
 use lib.Dec.{eqb}
 use lib.ListN.{length}
 use lib.Ieee.{Float, le}
-use Rattle.basics.specs.Lists.{all, zipWith}
+use Rattle.basics.specs.Lists.{all, foldAll, zipWith}
 use Rattle.basics.specs.Refusals.{Test, refuse, fault, Answer, refused, success, answer}
 use Rattle.floats.specs.Rounded.{_⊕_, _⊖_, _⊗_, _⊘_, zeroF, pow2⁻}
 use Rattle.floats.specs.Sqrt.{sqrtOf}
@@ -18,23 +18,14 @@ use Rattle.geometry.specs.declared.Measured.the-variants.{Distance, Refu
 
 -- ---- sums of products, from the left, with no zero in front
 
-unfoldable pub sumFrom : Float → List Float → Float
-sumFrom a [] = a
-sumFrom a (x ∷ xs) = sumFrom (a ⊕ x) xs
-
-unfoldable pub total : List Float → Float
-unfolding sumFrom
-total [] = zeroF
-total (x ∷ xs) = sumFrom x xs
-
 unfoldable pub dot : List Float → List Float → Float
-unfolding total zipWith
-dot u v = total (zipWith (λ (a b : Float). a ⊗ b) u v)
+unfolding foldAll zipWith
+dot u v = foldAll _⊕_ zeroF (zipWith _⊗_ u v)
 
 -- b - a
 unfoldable pub from : List Float → List Float → List Float
 unfolding zipWith
-from a b = zipWith (λ (y x : Float). y ⊖ x) b a
+from a b = zipWith _⊖_ b a
 
 -- ---- the distances
 

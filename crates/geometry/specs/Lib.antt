@@ -2,4 +2,3 @@
 pub mod Position
 pub mod Distances
 pub mod Cells
-pub mod Axes

@@ -8,11 +8,11 @@ use mathlib.Core.List.{List, [], _∷_}
 use lib.Dec.{ltb}
 use lib.ListN.{take}
 use lib.Ieee.{Float, lt}
-use Rattle.basics.specs.Bools.{by-test}
+use Rattle.basics.proofs.Bools.{by-test}
 use Rattle.basics.specs.Lists.{any}
 use Rattle.grid.specs.declared.Along.the-variants as axis
 use Rattle.grid.specs.Containers.{outside, inner, along, combine, containers}
-use Rattle.grid.specs.Keys.{digit}
+use Rattle.grid.proofs.Keys.{digit-below}
 
 -- ---- keys
 pub key-is : (n0 n1 n2 i j k : ℕ) → i + j * n0 + k * n0 * n1 ≡ combine (n0 ∷ n1 ∷ n2 ∷ []) (i ∷ j ∷ k ∷ [])
@@ -31,7 +31,7 @@ second-index x y key X Y =
     let j = q % y in
     let k = q / y in
     let e : key ≡ i + x * j + x * y * k = sym (mod-add-div key x) ∙ ap (λ (z : ℕ). i + x * z) (sym (mod-add-div q y)) ∙ split x j y k i in
-    let r : key % (x * y) ≡ i + x * j = ap (λ (z : ℕ). z % (x * y)) e ∙ add-mul-mod-self-left (i + x * j) (x * y) k ∙ mod-eq-of-lt (digit x i j y (mod-lt key X) (mod-lt q Y)) in
+    let r : key % (x * y) ≡ i + x * j = ap (λ (z : ℕ). z % (x * y)) e ∙ add-mul-mod-self-left (i + x * j) (x * y) k ∙ mod-eq-of-lt (digit-below x i j y (mod-lt key X) (mod-lt q Y)) in
     ap (λ (z : ℕ). z / x) r ∙ add-mul-div-left i j X ∙ ap (λ (z : ℕ). z + j) (div-eq-of-lt (mod-lt key X)) ∙ zero-add j
 
 pub third-index : (x y z key : ℕ) → 0 < x → 0 < y → key < containers (x ∷ y ∷ z ∷ []) → key / (x * y) ≡ key / x / y % z

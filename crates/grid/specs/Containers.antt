@@ -53,6 +53,13 @@ combine (n ∷ ns) (i ∷ is) = i + n * combine ns is
 combine [] is = 0
 combine (n ∷ ns) [] = 0
 
+-- as many indices as axes, each below its divisions
+abbrev pub InGrid : List ℕ → List ℕ → Type 0
+InGrid [] [] = Unit {0}
+InGrid [] (i ∷ is) = ⊥
+InGrid (n ∷ ns) [] = ⊥
+InGrid (n ∷ ns) (i ∷ is) = (i < n) × InGrid ns is
+
 unfoldable pub keyOf : List ℕ → Float → List Float → List Float → ℕ
 unfolding combine zipWith inner ratios
 keyOf ns side xmin x = combine ns (zipWith inner ns (ratios side xmin x))

@@ -8,8 +8,7 @@ ghost use Rattle.basics.specs.Lists.{all};
 ghost use Rattle.floats.specs.Rounded.{_⊕_, _⊖_, _⊗_, _⊘_, ofNat, truncate, pow2, zeroF};
 ghost use Rattle.geometry.specs.Position.{coords, positionOf, dimension};
 ghost use Rattle.grid.specs.Divisions.{counts, divisionsOf, division, longer as longerOf, longest as longestOf, share as shareOf, numDivisions};
-ghost use Rattle.grid.specs.Containers.{outside, inner as innerOf, along, Fits, combine, located, containers, indices, pivotOf, pivots, centre};
-ghost use Rattle.grid.specs.Keys.{Below};
+ghost use Rattle.grid.specs.Containers.{outside, inner as innerOf, along, Fits, combine, located, containers, indices, pivotOf, pivots, centre, InGrid};
 use geometry::Position;
 
 // The number of a container.
@@ -201,7 +200,7 @@ fn index_along(in_use: bool, n: u64, side_length: f64, xmin: f64, x: f64) -> Alo
 
 // The key of the container with these indices.
 fn combined(ndiv: Divisions, pivot: Pivot) -> u64
-    requires { ⌜ all division (counts 3 ndiv) ≡ true ⌝ ∗ ⌜ Below (counts 3 ndiv) (indices 3 pivot) ⌝ }
+    requires { ⌜ all division (counts 3 ndiv) ≡ true ⌝ ∗ ⌜ InGrid (counts 3 ndiv) (indices 3 pivot) ⌝ }
     ensures { λ r. ⌜ r ≡ combine (counts 3 ndiv) (indices 3 pivot) ⌝ }
 {
     pivot.i + pivot.j * ndiv.x + pivot.k * ndiv.x * ndiv.y

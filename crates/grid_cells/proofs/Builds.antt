@@ -10,12 +10,13 @@ use lib.Dec.{ltb, eqb}
 use lib.ListN.{length}
 use lib.Ieee.{Float}
 use borrow.Author.Tests.{lt-ltb, le-ltb, eq-eqb, ne-eqb, ltb-false, eqb-true, not-false}
-use Rattle.basics.specs.Bools.{by-test, or-left, or-right}
+use Rattle.basics.proofs.Bools.{by-test, or-left, or-right}
 use Rattle.basics.specs.Lists.{all, any, over}
-use Rattle.basics.specs.Refusals.{Test, fault, code, refused, success, answer, Passed, unrefused, fault-stop, fault-right}
+use Rattle.basics.specs.Refusals.{Test, fault, code, refused, success, answer}
+use Rattle.basics.proofs.Refusals.{Passed, unrefused, fault-stop, fault-right}
 use Rattle.geometry.specs.Position.{dimension}
 use Rattle.grid.specs.Divisions.{counts, division}
-use Rattle.grid_search.specs.Sheet.{above}
+use Rattle.grid_search.specs.Sheet.{inOrder}
 use Rattle.mesh.specs.Mesh.{Mesh, Box, cellCount, meshTooLong, Whole}
 use Rattle.cell_sizes.specs.declared.Settings.{Settings}
 use Rattle.grid_cells.specs.declared.GridCells.{GridCells}
@@ -65,7 +66,7 @@ framed-divisions : (n : ℕ) (w : Measured) (t : Settings) → fault (frameTests
 unfolding frameTests divisionTests
 framed-divisions n w t e =
     let p = unrefused (frameTests n w t) e in
-    rw (index-axes n w t) (divided (counts n (index n w t 0 .ndiv)) (or-right (not (above (lowCorner w t) (highCorner w t))) (any (λ (d : ℕ). eqb d 0) (counts n (index n w t 0 .ndiv))) (p .1 .0)) (p .1 .1 .0))
+    rw (index-axes n w t) (divided (counts n (index n w t 0 .ndiv)) (or-right (not (inOrder (lowCorner w t) (highCorner w t))) (any (λ (d : ℕ). eqb d 0) (counts n (index n w t 0 .ndiv))) (p .1 .0)) (p .1 .1 .0))
 
 finish-is : (n : ℕ) (m : Mesh) (t : Settings) (l : Lent) → fault (buildTests n m t l) ≡ fault (late n m t l) → build n m t l ≡ finishOf (index n (measure n m t) t 0) (measure n m t .apart) (measure n m t .limit) (boxes n m) l
 unfolding build late finishOf largeOf

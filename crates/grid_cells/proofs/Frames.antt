@@ -9,17 +9,17 @@ use mathlib.Core.List.{List, [], _∷_, map}
 use lib.Dec.{eqb}
 use lib.ListN.{length}
 use lib.Ieee.{Float}
-use Rattle.basics.specs.Bools.{or-right}
+use Rattle.basics.proofs.Bools.{or-right}
 use Rattle.basics.specs.Lists.{all, any, zipWith}
-use Rattle.basics.specs.Refusals.{fault, code, refused, success, answer, unrefused}
+use Rattle.basics.specs.Refusals.{fault, code, refused, success, answer}
+use Rattle.basics.proofs.Refusals.{unrefused}
 use Rattle.floats.specs.Rounded.{_⊕_, _⊗_, pow2}
 use Rattle.geometry.specs.declared.Position.{Position}
 use Rattle.geometry.specs.Position.{coords, positionOf, dimension}
-use Rattle.geometry.specs.Axes.{coords-of, coords-length}
+use Rattle.geometry.proofs.Axes.{coords-of, coords-length, entries-of}
 use Rattle.grid.specs.declared.Divisions.{Divisions}
 use Rattle.grid.specs.Divisions.{counts, divisionsOf, division}
-use Rattle.grid.specs.Shares.{counts-of}
-use Rattle.grid_search.specs.Sheet.{lowered, raised, coveredOf, above}
+use Rattle.grid_search.specs.Sheet.{lowered, raised, coveredOf, inOrder}
 use Rattle.mesh.specs.Mesh.{Mesh, Box, cellCount, least, greatest}
 use Rattle.cell_sizes.specs.declared.Settings.{Settings}
 use Rattle.cell_sizes.specs.declared.Sizes.{Sizes}
@@ -28,7 +28,7 @@ use Rattle.grid_cells.specs.Build.{lowCorner, highCorner, cellSide, cell
 use Rattle.cell_sizes.specs.Steps.{Sized}
 use Rattle.grid_cells.specs.Steps.{divisionTests, frameTests}
 use Rattle.cell_sizes.proofs.Boxes.{length-boxes}
-use Rattle.grid_search.specs.Laws.{lowered-length, raised-length}
+use Rattle.grid_search.proofs.Laws.{lowered-length, raised-length}
 use Rattle.grid_cells.proofs.Ways.{Numbered, code-some, code-none, divided}
 
 numbers : (low high : List Float) (ns : List ℕ) → Numbered (divisionTests low high ns)
@@ -46,7 +46,7 @@ pub frame-divided : (low high : List Float) (ns : List ℕ) (r : ℕ) → r ≡ 
 unfolding divisionTests all
 frame-divided low high ns r e z =
     let p = unrefused (divisionTests low high ns) (code-none (divisionTests low high ns) r (numbers low high ns) e z) in
-    divided ns (or-right (not (above low high)) (any (λ (d : ℕ). eqb d 0) ns) (p .0)) (p .1 .0)
+    divided ns (or-right (not (inOrder low high)) (any (λ (d : ℕ). eqb d 0) ns) (p .0)) (p .1 .0)
 
 after-first : (n : ℕ) (w : Measured) (t : Settings) → nothingFiled w ≡ false → fault (frameTests n w t) ≡ fault (divisionTests (lowCorner w t) (highCorner w t) (counts n (index n w t 0 .ndiv)))
 unfolding frameTests fault
@@ -118,7 +118,7 @@ module _ (n : ℕ) (m : Mesh) (t : Settings) (sizes : Sizes) (s : Sized n m t si
             → xmax ≡ positionOf (coveredOf (cellSide (measure n m t) t) (lowCorner (measure n m t) t) (cellDivisions (cellSide (measure n m t) t) (lowCorner (measure n m t) t) (highCorner (measure n m t) t)))
         covered-is xmax x =
             x
-            ∙ ap (λ (ns : List ℕ). positionOf (coveredOf side (coords n xmin) ns)) (ap (counts n) di ∙ counts-of n (cellDivisions side (coords n xmin) (coords n high)) d length-divisions)
+            ∙ ap (λ (ns : List ℕ). positionOf (coveredOf side (coords n xmin) ns)) (ap (counts n) di ∙ entries-of 1 n (cellDivisions side (coords n xmin) (coords n high)) d length-divisions)
             ∙ rw (side-is, low-axes, high-axes)
 
         index-is : (xmax : Position) → xmax ≡ positionOf (coveredOf side (coords n xmin) (counts n ndiv))

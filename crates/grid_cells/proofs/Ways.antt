@@ -9,7 +9,7 @@ use mathlib.Core.Option.{Option, none, some}
 use mathlib.Core.List.{List, [], _∷_}
 use lib.Dec.{ltb, eqb}
 use borrow.Author.Tests.{eqb-false, ltb-false, le-leb}
-use Rattle.basics.specs.Bools.{which, both, or-left, or-right, and-left, and-right}
+use Rattle.basics.proofs.Bools.{which, both, or-left, or-right, and-left, and-right}
 use Rattle.basics.specs.Lists.{all, any}
 use Rattle.basics.specs.Refusals.{Test, fault, code}
 use Rattle.grid.specs.Divisions.{division}

@@ -18,7 +18,7 @@ use Rattle.geometry.specs.Position.{positionOf, dimension, coordinate}
 use Rattle.grid.specs.Divisions.{counts, divisionsOf}
 use Rattle.grid_search.specs.declared.GivenF64.{GivenF64}
 use Rattle.grid_search.specs.declared.GivenF64.the-variants.{LeftOut, Given}
-use Rattle.grid_search.specs.Sheet.{toleranceOf, borderOf, lowered, raised, coveredOf, above}
+use Rattle.grid_search.specs.Sheet.{toleranceOf, borderOf, lowered, raised, coveredOf, inOrder}
 use Rattle.mesh.specs.Mesh.{Mesh, Box, cellCount, meshTooLong, brokenMesh, least, greatest}
 use Rattle.table.specs.Rows.{Slot}
 use Rattle.cell_sizes.specs.declared.Settings.{Settings}
@@ -135,7 +135,7 @@ unfoldable pub lentTooLong : Lent → Bool
 lentTooLong l = ltb 65536 (length (l .keys)) || (ltb 65536 (length (l .cells)) || ltb 65536 (length (l .large)))
 
 unfoldable pub buildTests : ℕ → Mesh → Settings → Lent → List Test
-unfolding meshTooLong lentTooLong brokenMesh settingsOk notPart cellCount nothingFiled measure make above lowCorner highCorner overshootsBox isFiled all any le lt
+unfolding meshTooLong lentTooLong brokenMesh settingsOk notPart cellCount nothingFiled measure make inOrder lowCorner highCorner overshootsBox isFiled all any le lt
 buildTests n m t l =
     let w = measure n m t in
     let k = make n w t in
@@ -151,7 +151,7 @@ buildTests n m t l =
     ∷ refuse 21 (notPart (t .«large_pct»))
     ∷ refuse 18 (eqb (cellCount n m) 0)
     ∷ refuse 23 (nothingFiled w)
-    ∷ refuse 22 (not (above (lowCorner w t) (highCorner w t)) || any (λ (d : ℕ). eqb d 0) ns)
+    ∷ refuse 22 (not (inOrder (lowCorner w t) (highCorner w t)) || any (λ (d : ℕ). eqb d 0) ns)
     ∷ refuse 6 (any (λ (d : ℕ). ltb 1024 d) ns)
     ∷ refuse 17 (any (λ (b : Box). isFiled (w .apart) (w .limit) b && overshootsBox (containersOf (k .grid)) b) (w .all-boxes))
     ∷ refuse 12 (ltb (length (l .keys)) (length (k .rows)) || ltb (length (l .large)) (length (k .large)))

@@ -11,7 +11,7 @@ use Rattle.basics.specs.Refusals.{Test, refuse, fault}
 use Rattle.floats.specs.Rounded.{zeroF}
 use Rattle.geometry.specs.Position.{dimension, coordinate}
 use Rattle.grid.specs.Divisions.{counts}
-use Rattle.grid_search.specs.Sheet.{above}
+use Rattle.grid_search.specs.Sheet.{inOrder}
 use Rattle.mesh.specs.Mesh.{Mesh, Box, meshTooLong, brokenMesh}
 use Rattle.cell_sizes.specs.declared.Settings.{Settings}
 use Rattle.cell_sizes.specs.Large.{Measured, isFiled, nothingFiled}
@@ -52,7 +52,7 @@ cellTests ncell = refuse 18 (eqb ncell 0) ∷ []
 
 -- 22 and 6, of the corners and the divisions
 unfoldable pub divisionTests : List Float → List Float → List ℕ → List Test
-divisionTests low high ns = refuse 22 (not (above low high) || any (λ (d : ℕ). eqb d 0) ns) ∷ refuse 6 (any (λ (d : ℕ). ltb 1024 d) ns) ∷ []
+divisionTests low high ns = refuse 22 (not (inOrder low high) || any (λ (d : ℕ). eqb d 0) ns) ∷ refuse 6 (any (λ (d : ℕ). ltb 1024 d) ns) ∷ []
 
 -- 23, 22, 6
 unfoldable pub frameTests : ℕ → Measured → Settings → List Test

@@ -6,14 +6,14 @@ use mathlib.Core.List.{List, [], _∷_, map}
 use lib.ListN.{take}
 use lib.Ieee.{Float, lt}
 use Rattle.basics.specs.Lists.{all, zipWith}
-use Rattle.basics.specs.Laws.{map-take}
+use Rattle.basics.proofs.Lists.{map-take}
 use Rattle.geometry.specs.declared.Position.{Position}
 use Rattle.geometry.specs.Position.{coords, positionOf}
-use Rattle.grid_search.specs.Sheet.{above}
+use Rattle.grid_search.specs.Sheet.{inOrder}
 
 -- above on every axis, by the test along each
-pub above-tests : (n : ℕ) (los his : List Float) → above (take n los) (take n his) ≡ all (λ (b : Bool). b) (take n (zipWith lt los his))
-unfolding above all zipWith
+pub above-tests : (n : ℕ) (los his : List Float) → inOrder (take n los) (take n his) ≡ all (λ (b : Bool). b) (take n (zipWith lt los his))
+unfolding inOrder all zipWith
 above-tests zero los his = refl
 above-tests (suc n) [] his = refl
 above-tests (suc n) (a ∷ los) [] = refl

@@ -8,15 +8,15 @@ use Rattle.basics.specs.Lists.{all}
 use Rattle.floats.specs.Rounded.{_⊗_, _⊘_, pow2}
 use Rattle.geometry.specs.declared.Position.{Position}
 use Rattle.geometry.specs.Position.{coords, positionOf, dimension}
-use Rattle.geometry.specs.Axes.{coords-length, coords-of}
+use Rattle.geometry.proofs.Axes.{coords-length, coords-of, entries-of}
 use Rattle.grid.specs.declared.Divisions.{Divisions}
 use Rattle.grid.specs.Divisions.{counts, divisionsOf, division, numDivisions}
-use Rattle.grid.specs.Shares.{divisions-length, counts-of}
+use Rattle.grid.proofs.Shares.{divisions-length}
 use Rattle.grid_search.specs.declared.GivenU64.{GivenU64}
 use Rattle.grid_search.specs.declared.GivenF64.{GivenF64}
 use Rattle.grid_search.specs.declared.GridSearch.{GridSearch}
-use Rattle.grid_search.specs.Sheet.{numberOf, toleranceOf, borderOf, lowered, raised, sideOf, coveredOf, diagonal, above, build}
-use Rattle.grid_search.specs.Laws.{divisions-good, lowered-length, raised-length}
+use Rattle.grid_search.specs.Sheet.{numberOf, toleranceOf, borderOf, lowered, raised, sideOf, coveredOf, diagonal, inOrder, sheetFrom}
+use Rattle.grid_search.proofs.Laws.{divisions-good, lowered-length, raised-length}
 
 module _ (n : ℕ) (low high : Position) (d : dimension n ≡ true) where
   pub both-lengths : length (coords n high) ≡ length (coords n low)
@@ -24,9 +24,9 @@ module _ (n : ℕ) (low high : Position) (d : dimension n ≡ true) where
 
   -- the divisions
   counts-are : (number : ℕ) (ndiv : Divisions) → ndiv ≡ divisionsOf (numDivisions number (coords n low) (coords n high)) → counts n ndiv ≡ numDivisions number (coords n low) (coords n high)
-  counts-are number ndiv e = rw e (counts-of n (numDivisions number (coords n low) (coords n high)) d (divisions-length number (coords n low) (coords n high) both-lengths ∙ coords-length n low d))
+  counts-are number ndiv e = rw e (entries-of 1 n (numDivisions number (coords n low) (coords n high)) d (divisions-length number (coords n low) (coords n high) both-lengths ∙ coords-length n low d))
 
-  pub counts-good : (number : ℕ) (ndiv : Divisions) → ndiv ≡ divisionsOf (numDivisions number (coords n low) (coords n high)) → 1 ≤ number → number ≤ 1024 → above (coords n low) (coords n high) ≡ true → all division (counts n ndiv) ≡ true
+  pub counts-good : (number : ℕ) (ndiv : Divisions) → ndiv ≡ divisionsOf (numDivisions number (coords n low) (coords n high)) → 1 ≤ number → number ≤ 1024 → inOrder (coords n low) (coords n high) ≡ true → all division (counts n ndiv) ≡ true
   counts-good number ndiv e P N h = rw (counts-are number ndiv e) (divisions-good number (coords n low) (coords n high) P N h)
 
   -- the corners
@@ -42,7 +42,7 @@ module _ (n : ℕ) (low high : Position) (d : dimension n ≡ true) where
       → side ≡ sideOf (coords n xmin) (coords n wide) (counts n ndiv) → xmax ≡ positionOf (coveredOf side (coords n xmin) (counts n ndiv)) → r ≡ diagonal n
       → _≡_ {A = GridSearch}
       (record { ndim = n; low = lo; high = hi; number = number; tolerance = tolerance; «border_tol» = border; ndiv = ndiv; xmin = xmin; xmax = xmax; «side_length» = side; «tol_dist» = r ⊗ tol; radius = r ⊗ side ⊘ pow2 1 })
-      (build (coords n low) (coords n high) number tolerance border)
-  unfolding build
+      (sheetFrom (coords n low) (coords n high) number tolerance border)
+  unfolding sheetFrom
   built-is number tolerance border num bor tol lo hi xmin wide xmax ndiv side r e1 e2 e3 e4 e5 e6 e7 e8 e9 e10 e11 =
       rw (e10, e9, lowered-are bor xmin e7, raised-are bor wide e8, counts-are num ndiv e6, e6, e7, e4, e5, e11, e1, e2, e3, coords-length n low d)

@@ -1,33 +1,20 @@
--- Document 01's sheet S, made and good. What is tried on it stands in the crate `examples`.
+-- Document 01's sheet S. What is tried on it stands in the crate `examples`.
 -- Assumes nothing.
-use mathlib.Core.Path.{_≡_, refl}
-use mathlib.Core.Bool.{true}
 use mathlib.Core.List.{List, [], _∷_}
-use lib.Ieee.{Float, add, sub, mul, div, ofInt, toUnsigned}
-use Rattle.basics.specs.Refusals.{success}
-use Rattle.floats.specs.Tests.{within}
+use lib.Ieee.{Float}
 use Rattle.floats.specs.Rounded.{zeroF, pow2, pow2⁻}
 use Rattle.grid_search.specs.declared.GivenU64.the-variants as number
 use Rattle.grid_search.specs.declared.GivenF64.the-variants as float
 use Rattle.grid_search.specs.declared.GridSearch.{GridSearch}
-use Rattle.grid_search.specs.Sheet.{build, newSheet, sheetOk}
+use Rattle.grid_search.specs.Sheet.{sheetFrom}
 
 -- sheet S: corners (0, 0) and (8, 4), divisions 8, border 0, tolerance 1/512
-abbrev pub lowCorner : List Float
-lowCorner = zeroF ∷ zeroF ∷ []
+abbrev pub lowOfS : List Float
+lowOfS = zeroF ∷ zeroF ∷ []
 
-abbrev pub highCorner : List Float
-highCorner = pow2 3 ∷ pow2 2 ∷ []
+abbrev pub highOfS : List Float
+highOfS = pow2 3 ∷ pow2 2 ∷ []
 
 unfoldable pub S : GridSearch
-unfolding build
-S = build lowCorner highCorner (number.Given 8) (float.Given (pow2⁻ 9)) (float.Given zeroF)
-
--- S is the sheet that these settings give, and it is good
-pub S-made : newSheet lowCorner highCorner (number.Given 8) (float.Given (pow2⁻ 9)) (float.Given zeroF) ≡ success S
-unfolding newSheet S add sub mul div ofInt toUnsigned within
-S-made = refl
-
-pub S-good : sheetOk S ≡ true
-unfolding sheetOk S add sub mul div ofInt toUnsigned within
-S-good = refl
+unfolding sheetFrom
+S = sheetFrom lowOfS highOfS (number.Given 8) (float.Given (pow2⁻ 9)) (float.Given zeroF)

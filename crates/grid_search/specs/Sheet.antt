@@ -6,13 +6,14 @@ use mathlib.Core.List.{List, [], _∷_, map}
 use lib.Dec.{ltb, eqb}
 use lib.ListN.{length}
 use lib.Ieee.{Float, binary64, round, lt, le}
-use Rattle.basics.specs.Lists.{all, zipWith}
+use Rattle.basics.specs.Lists.{all, foldAll, zipWith}
 use Rattle.basics.specs.Refusals.{Test, refuse, fault, Answer, refused, success, answer}
 use Rattle.floats.specs.Rounded.{_⊕_, _⊖_, _⊗_, _⊘_, ofNat, zeroF, pow2, pow2⁻}
 use Rattle.floats.specs.Tests.{maxOf, finite, sameBits}
 use Rattle.floats.specs.Sqrt.{sqrtOf}
 use Rattle.geometry.specs.declared.Position.{Position}
 use Rattle.geometry.specs.Position.{coords, positionOf, dimension, coordinate}
+use Rattle.geometry.specs.Distances.{from}
 use Rattle.grid.specs.declared.Divisions.{Divisions}
 use Rattle.grid.specs.Divisions.{divisionsOf, numDivisions}
 use Rattle.grid_search.specs.declared.GivenU64.{GivenU64}
@@ -41,16 +42,9 @@ borderOf (float.Given b) = b
 
 -- ---- what they give
 
--- the largest, from the left
-unfoldable pub largestFrom : Float → List Float → Float
-unfolding maxOf
-largestFrom a [] = a
-largestFrom a (x ∷ xs) = largestFrom (maxOf a x) xs
-
 unfoldable pub largest : List Float → Float
-unfolding largestFrom
-largest [] = zeroF
-largest (x ∷ xs) = largestFrom x xs
+unfolding foldAll maxOf
+largest xs = foldAll maxOf zeroF xs
 
 -- the corners moved outwards by a border above 0
 unfoldable pub lowered : Float → List Float → List Float
@@ -63,8 +57,8 @@ raised border hi = cond (lt zeroF border) (map (λ (a : Float). a ⊕ border) hi
 
 -- the largest (xmax - xmin) / divisions
 unfoldable pub sideOf : List Float → List Float → List ℕ → Float
-unfolding largest zipWith
-sideOf xmin xmax ns = largest (zipWith (λ (d : Float) (n : ℕ). d ⊘ ofNat n) (zipWith (λ (b a : Float). b ⊖ a) xmax xmin) ns)
+unfolding largest zipWith from
+sideOf xmin xmax ns = largest (zipWith (λ (d : Float) (n : ℕ). d ⊘ ofNat n) (from xmin xmax) ns)
 
 -- the high corner of the containers: xmin + side × divisions
 unfoldable pub coveredOf : Float → List Float → List ℕ → List Float
@@ -76,9 +70,9 @@ unfoldable pub diagonal : ℕ → Float
 unfolding sqrtOf
 diagonal n = sqrtOf (ofNat n)
 
-unfoldable pub build : List Float → List Float → GivenU64 → GivenF64 → GivenF64 → GridSearch
+unfoldable pub sheetFrom : List Float → List Float → GivenU64 → GivenF64 → GivenF64 → GridSearch
 unfolding numberOf toleranceOf borderOf lowered raised sideOf coveredOf diagonal numDivisions
-build lo hi number tolerance border =
+sheetFrom lo hi number tolerance border =
     -- the divisions come from the corners before the border widens them
     let ns = numDivisions (numberOf number) lo hi in
     let xmin = lowered (borderOf border) lo in
@@ -109,14 +103,14 @@ outOfLimits lo hi tolerance border =
     || (lt (pow2 10) tolerance || (lt (pow2 10) border || (lt zeroF tolerance && lt tolerance (pow2⁻ 20))))
 
 -- 7: the high corner is above the low one on every axis
-unfoldable pub above : List Float → List Float → Bool
+unfoldable pub inOrder : List Float → List Float → Bool
 unfolding lt
-above (a ∷ los) (b ∷ his) = lt a b && above los his
-above [] his = true
-above (a ∷ los) [] = true
+inOrder (a ∷ los) (b ∷ his) = lt a b && inOrder los his
+inOrder [] his = true
+inOrder (a ∷ los) [] = true
 
 unfoldable pub sheetTests : List Float → List Float → GivenU64 → GivenF64 → GivenF64 → List Test
-unfolding outOfLimits above numberOf toleranceOf borderOf build lt le
+unfolding outOfLimits inOrder numberOf toleranceOf borderOf sheetFrom lt le
 sheetTests lo hi number tolerance border =
     refuse 1 (not (dimension (length lo)))
     ∷ refuse 2 (not (eqb (length hi) (length lo)))
@@ -124,15 +118,15 @@ sheetTests lo hi number tolerance border =
     ∷ refuse 4 (eqb (numberOf number) 0)
     ∷ refuse 5 (eqb (numberOf number) 1)
     ∷ refuse 6 (ltb 1024 (numberOf number))
-    ∷ refuse 7 (not (above lo hi))
+    ∷ refuse 7 (not (inOrder lo hi))
     ∷ refuse 8 (le (toleranceOf tolerance) zeroF)
     ∷ refuse 9 (lt (borderOf border) zeroF)
-    ∷ refuse 10 (le (build lo hi number tolerance border .«side_length») (pow2 1 ⊗ toleranceOf tolerance))
+    ∷ refuse 10 (le (sheetFrom lo hi number tolerance border .«side_length») (pow2 1 ⊗ toleranceOf tolerance))
     ∷ []
 
 unfoldable pub newSheet : List Float → List Float → GivenU64 → GivenF64 → GivenF64 → Answer GridSearch
-unfolding build fault sheetTests answer
-newSheet lo hi number tolerance border = answer (fault (sheetTests lo hi number tolerance border)) (build lo hi number tolerance border)
+unfolding sheetFrom fault sheetTests answer
+newSheet lo hi number tolerance border = answer (fault (sheetTests lo hi number tolerance border)) (sheetFrom lo hi number tolerance border)
 
 -- the answer's number or its sheet
 abbrev pub made : Made → Answer GridSearch

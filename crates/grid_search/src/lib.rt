@@ -7,8 +7,7 @@ ghost use Rattle.basics.specs.Lists.{all};
 ghost use Rattle.floats.specs.Rounded.{_⊕_, _⊖_, _⊗_, _⊘_, ofNat};
 ghost use Rattle.geometry.specs.Position.{coords, positionOf, dimension};
 ghost use Rattle.grid.specs.Divisions.{counts, division};
-ghost use Rattle.grid_search.specs.Sheet.{numberOf, toleranceOf, borderOf, largest as largestOf, lowered as loweredOf, raised as raisedOf, sideOf, coveredOf, diagonal as diagonalOf, build};
-ghost use Rattle.grid_search.specs.Sheet.{outOfLimits, above, made, newSheet, samePosition, sameDivisions, sameSheet, sheetOk};
+ghost use Rattle.grid_search.specs.Sheet.{numberOf, toleranceOf, borderOf, largest as largestOf, lowered as loweredOf, raised as raisedOf, sideOf, coveredOf, diagonal as diagonalOf, sheetFrom, outOfLimits, inOrder, made, newSheet, samePosition, sameDivisions, sameSheet, sheetOk};
 use geometry::Position;
 use grid::Divisions;
 
@@ -193,8 +192,8 @@ fn built(
     tolerance: GivenF64,
     border_tol: GivenF64,
 ) -> GridSearch
-    requires { ⌜ dimension ndim ≡ true ⌝ ∗ ⌜ above (coords ndim low) (coords ndim high) ≡ true ⌝ ∗ ⌜ 1 ≤ numberOf number ⌝ ∗ ⌜ numberOf number ≤ 1024 ⌝ }
-    ensures { λ r. ⌜ r ≡ build (coords ndim low) (coords ndim high) number tolerance «border_tol» ⌝ }
+    requires { ⌜ dimension ndim ≡ true ⌝ ∗ ⌜ inOrder (coords ndim low) (coords ndim high) ≡ true ⌝ ∗ ⌜ 1 ≤ numberOf number ⌝ ∗ ⌜ numberOf number ≤ 1024 ⌝ }
+    ensures { λ r. ⌜ r ≡ sheetFrom (coords ndim low) (coords ndim high) number tolerance «border_tol» ⌝ }
 {
     // the divisions come from the corners before the border widens them
     let ndiv = grid::num_divisions(ndim, number_in_force(number), low, high);
@@ -237,7 +236,7 @@ fn out_of_limits(ndim: usize, low: Position, high: Position, tolerance: f64, bor
 // 7: the high corner is above the low one on every axis.
 pub fn is_above(ndim: usize, low: Position, high: Position) -> bool
     requires { ⌜ dimension ndim ≡ true ⌝ }
-    ensures { λ r. ⌜ r ≡ above (coords ndim low) (coords ndim high) ⌝ }
+    ensures { λ r. ⌜ r ≡ inOrder (coords ndim low) (coords ndim high) ⌝ }
 {
     geometry::on_every_axis(ndim, low.x < high.x, low.y < high.y, low.z < high.z)
 }

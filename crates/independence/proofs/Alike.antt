@@ -4,13 +4,14 @@ use mathlib.Core.Path.{_≡_, refl, sym, _∙_, ap, ap₂}
 use mathlib.Core.Bool.{Bool, true, false, _&&_, and-false}
 use mathlib.Core.List.{List, [], _∷_, _++_}
 use lib.Ieee.{Float}
-use Rattle.basics.specs.Bools.{by-test}
+use Rattle.basics.proofs.Bools.{by-test}
 use Rattle.basics.specs.Lists.{keep}
 use Rattle.basics.specs.Refusals.{Test}
 use Rattle.grid_search.specs.declared.GridSearch.{GridSearch}
 use Rattle.table.specs.declared.Row.{Row}
 use Rattle.table.specs.Rows.{own}
-use Rattle.rows.specs.Library.{Library, table, libraryTests}
+use Rattle.table.specs.Library.{Library, table}
+use Rattle.rows.specs.Damage.{libraryTests}
 use Rattle.rows.specs.Insert.{positionTests}
 use Rattle.search.specs.Search.{isNear, nearRows, searchTests}
 use Rattle.listing.specs.declared.Filter.{Filter}

@@ -11,13 +11,15 @@ use lib.Dec.{ltb, leb, eqb}
 use lib.ListN.{length}
 use lib.Ieee.{Float}
 use borrow.Author.Tests.{eqb-true, eq-eqb, leb-true, leb-false, le-ltb}
-use Rattle.basics.specs.Bools.{by-test, clash, both, and-both, or-either, or-true}
+use Rattle.basics.proofs.Bools.{by-test, clash, both, and-both, or-either, or-true}
 use Rattle.basics.specs.Lists.{all, any, has, over}
-use Rattle.basics.specs.Refusals.{Test, refuse, fault, refused, success, answer, fault-left, fault-right, fault-stop}
+use Rattle.basics.specs.Refusals.{Test, refuse, fault, refused, success, answer}
+use Rattle.basics.proofs.Refusals.{fault-left, fault-right, fault-stop}
 use Rattle.grid_search.specs.declared.GridSearch.{GridSearch}
 use Rattle.table.specs.declared.Row.{Row}
 use Rattle.table.specs.Rows.{idIn}
-use Rattle.rows.specs.Library.{Library, table, libraryTests}
+use Rattle.table.specs.Library.{Library, table}
+use Rattle.rows.specs.Damage.{libraryTests}
 use Rattle.search.specs.Search.{nearRows, lowest, searchTests, searchAnswer}
 use Rattle.listing.specs.declared.Filter.{Filter}
 use Rattle.sorting.specs.Ascent.{ascending}

@@ -10,9 +10,10 @@ use lib.Dec.{ltb, eqb}
 use lib.ListN.{length}
 use lib.Ieee.{Float}
 use borrow.Author.Tests.{leb-true, le-leb, eqb-true, not-false}
-use Rattle.basics.specs.Bools.{both, and-both}
+use Rattle.basics.proofs.Bools.{both, and-both}
 use Rattle.basics.specs.Lists.{all}
-use Rattle.basics.specs.Refusals.{Test, refuse, fault, unrefused, passed, fault-left, fault-right}
+use Rattle.basics.specs.Refusals.{Test, refuse, fault}
+use Rattle.basics.proofs.Refusals.{unrefused, passed, fault-left, fault-right}
 use Rattle.geometry.specs.Position.{positionOf}
 use Rattle.grid.specs.Divisions.{counts}
 use Rattle.grid.specs.Containers.{containers}
@@ -21,9 +22,10 @@ use Rattle.table.specs.declared.Row.{Row}
 use Rattle.table.specs.Rows.{slotOf, sorted, own}
 use Rattle.table.proofs.All.{sorted-all}
 use Rattle.table.proofs.Ids.{all-putIn, length-own, other-putIn, own-putIn}
-use Rattle.rows.specs.Library.{Library, table, write, Space, space, tooLong, fits, roomy, goodRow, sound, libraryTests, Turn}
+use Rattle.table.specs.Library.{Library, table, write, Space, space, tooLong, fits, roomy}
+use Rattle.rows.specs.Damage.{goodRow, sound, libraryTests}
+use Rattle.rows.specs.Insert.{Turn, points, targets, rowsWith, positionTests, roomTests, settle, insertion}
 use Rattle.rows.proofs.Check.{Whole, together}
-use Rattle.rows.specs.Insert.{points, targets, rowsWith, positionTests, roomTests, settle, insertion}
 use Rattle.independence.specs.Run.{Change, insert, change, step, refusalIn, refusal}
 use Rattle.independence.specs.Histories.{whose, effect}
 use Rattle.independence.proofs.Lists.{table-write, write-used, space-write}

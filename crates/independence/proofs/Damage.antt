@@ -8,11 +8,13 @@ use lib.Dec.{ltb}
 use lib.ListN.{length}
 use lib.Ieee.{Float}
 use borrow.Author.Tests.{not-true}
-use Rattle.basics.specs.Bools.{by-test, both, and-both}
+use Rattle.basics.proofs.Bools.{by-test, both, and-both}
 use Rattle.basics.specs.Lists.{all}
-use Rattle.basics.specs.Refusals.{Test, refuse, fault, answer, fault-left, fault-right}
+use Rattle.basics.specs.Refusals.{Test, refuse, fault, answer}
+use Rattle.basics.proofs.Refusals.{fault-left, fault-right}
 use Rattle.grid_search.specs.declared.GridSearch.{GridSearch}
-use Rattle.rows.specs.Library.{Library, table, space, libraryTests}
+use Rattle.table.specs.Library.{Library, table, space}
+use Rattle.rows.specs.Damage.{libraryTests}
 use Rattle.rows.specs.Insert.{positionTests, roomTests}
 use Rattle.search.specs.Search.{searchTests, searchAnswer, lowest, nearRows}
 use Rattle.listing.specs.declared.Filter.{Filter}

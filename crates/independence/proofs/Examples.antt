@@ -13,9 +13,9 @@ use Rattle.floats.specs.Tests.{within}
 use Rattle.grid_search.specs.declared.GivenU64.the-variants as number
 use Rattle.grid_search.specs.declared.GivenF64.the-variants as float
 use Rattle.grid_search.specs.declared.GridSearch.{GridSearch}
-use Rattle.grid_search.specs.Sheet.{build}
+use Rattle.grid_search.specs.Sheet.{sheetFrom}
 use Rattle.table.specs.Rows.{keyIn, before, same}
-use Rattle.rows.specs.Library.{Library, table}
+use Rattle.table.specs.Library.{Library, table}
 use Rattle.listing.specs.declared.Filter.the-variants.{Everything}
 use Rattle.listing.specs.Place.{Asked, line}
 use Rattle.independence.specs.Run.{Change, insert, Call, change, search, list, inserted, found, listed, run, replies}
@@ -25,8 +25,8 @@ use Rattle.independence.specs.Claims.{replay}
 
 -- corners (0,0) and (8,4), divisions 8, border 0, tolerance 1/512
 S : GridSearch
-unfolding build
-S = build (zeroF ∷ zeroF ∷ []) (pow2 3 ∷ pow2 2 ∷ []) (number.Given 8) (float.Given (pow2⁻ 9)) (float.Given zeroF)
+unfolding sheetFrom
+S = sheetFrom (zeroF ∷ zeroF ∷ []) (pow2 3 ∷ pow2 2 ∷ []) (number.Given 8) (float.Given (pow2⁻ 9)) (float.Given zeroF)
 
 -- no row in use, and the lists full of one thing or another
 empty : ℕ → ℕ → Float → Library

@@ -5,7 +5,7 @@ use mathlib.Core.Bool.{Bool, true, false, cond}
 use mathlib.Core.Option.{Option, none, some}
 use mathlib.Core.List.{List, [], _∷_, map}
 use lib.Dec.{eqb}
-use Rattle.basics.specs.Bools.{by-test}
+use Rattle.basics.proofs.Bools.{by-test}
 use Rattle.basics.specs.Lists.{has}
 use Rattle.basics.specs.Refusals.{fault}
 use Rattle.geometry.specs.Position.{positionOf}
@@ -13,7 +13,7 @@ use Rattle.grid_search.specs.declared.GridSearch.{GridSearch}
 use Rattle.table.specs.declared.Row.{Row}
 use Rattle.table.specs.Rows.{Slot, slotOf, sorted, rowFor, rowIn, own}
 use Rattle.table.proofs.Ids.{rowFor-putIn, rowFor-own}
-use Rattle.rows.specs.Library.{Library, table}
+use Rattle.table.specs.Library.{Library, table}
 use Rattle.rows.specs.Insert.{targets, rowsWith}
 use Rattle.independence.specs.Run.{Change, insert, Call, change, search, list, step, run}
 use Rattle.independence.specs.Histories.{whose, history, effect, built, placing, placed}

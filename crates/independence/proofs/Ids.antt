@@ -7,11 +7,12 @@ use mathlib.Core.List.{List, [], _∷_}
 use lib.Dec.{ltb, eqb}
 use lib.ListN.{length}
 use borrow.Author.Tests.{eqb-true}
-use Rattle.basics.specs.Bools.{by-test, clash}
+use Rattle.basics.proofs.Bools.{by-test, clash}
 use Rattle.basics.specs.Lists.{any, keep, has, enter}
 use Rattle.table.specs.declared.Row.{Row}
 use Rattle.table.specs.Rows.{idIn, own}
-use Rattle.sorting.specs.Ascent.{ascending, enter-ascending, enter-length}
+use Rattle.sorting.specs.Ascent.{ascending}
+use Rattle.sorting.proofs.Ascent.{enter-ascending, enter-length}
 use Rattle.listing.specs.Listing.{idsOf, occupied}
 use Rattle.independence.specs.Queries.{holds}
 

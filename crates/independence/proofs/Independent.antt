@@ -5,12 +5,12 @@ use mathlib.Core.Bool.{true, false}
 use mathlib.Core.Option.{Option, none, some}
 use mathlib.Core.List.{List, [], _∷_, map}
 use lib.Dec.{eqb}
-use Rattle.basics.specs.Bools.{by-test, both}
+use Rattle.basics.proofs.Bools.{by-test, both}
 use Rattle.basics.specs.Lists.{all}
 use Rattle.basics.specs.Refusals.{fault}
 use Rattle.grid_search.specs.declared.GridSearch.{GridSearch}
 use Rattle.table.specs.Rows.{own}
-use Rattle.rows.specs.Library.{Library, table, space}
+use Rattle.table.specs.Library.{Library, table, space}
 use Rattle.rows.proofs.Check.{Whole}
 use Rattle.independence.specs.Run.{Change, Call, change, search, list, step, isNone, accepted, run, replies}
 use Rattle.independence.specs.Histories.{whose, history, effect}

@@ -10,18 +10,18 @@ use lib.Dec.{ltb, leb, eqb}
 use lib.ListN.{length}
 use lib.Ieee.{Float}
 use borrow.Author.Tests.{leb-true, lt-ltb}
-use Rattle.basics.specs.Bools.{both, and-both, and-left, or-left, or-right}
+use Rattle.basics.proofs.Bools.{both, and-both, and-left, or-left, or-right}
 use Rattle.basics.specs.Lists.{all, any, zipWith}
 use Rattle.floats.specs.Rounded.{zeroF}
 use Rattle.floats.specs.Tests.{sameBits}
 use Rattle.geometry.specs.Position.{coords, positionOf, coordinate}
-use Rattle.geometry.specs.Axes.{two-or-three, coords-of}
+use Rattle.geometry.proofs.Axes.{two-or-three, coords-of}
 use Rattle.grid.specs.Divisions.{counts, division}
 use Rattle.grid.specs.Containers.{ratios, exceed, inner, combine, keyOf, containers}
-use Rattle.grid.specs.Keys.{digit, indices-below}
+use Rattle.grid.proofs.Keys.{digit-below, indices-below}
 use Rattle.grid_search.specs.declared.GridSearch.{GridSearch}
 use Rattle.grid_search.specs.Sheet.{sheetOk}
-use Rattle.grid_search.specs.Good.{good}
+use Rattle.grid_search.proofs.Good.{good}
 use Rattle.rows.specs.Insert.{containerOf, overshoots}
 
 -- ---- keys, for a position of any length
@@ -40,7 +40,7 @@ combined (n ∷ ns) [] d e = some-container (n ∷ ns) d
 combined (n ∷ ns) (r ∷ rs) d e =
     let a = and-both (division n) (all division ns) d in
     let i = indices-below (n ∷ []) (r ∷ []) refl (both (a .0) refl) (or-false (ltb n r) ∙ or-left (ltb n r) (exceed ns rs) e) .0 in
-    digit n (inner n r) (combine ns (zipWith inner ns rs)) (containers ns) i (combined ns rs (a .1) (or-right (ltb n r) (exceed ns rs) e))
+    digit-below n (inner n r) (combine ns (zipWith inner ns rs)) (containers ns) i (combined ns rs (a .1) (or-right (ltb n r) (exceed ns rs) e))
 
 module _ (s : GridSearch) (h : sheetOk s ≡ true) where
   -- where no point overshoots, each key is below the number of containers

@@ -5,13 +5,13 @@ use mathlib.Core.Bool.{true}
 use mathlib.Core.List.{List, [], _∷_}
 use lib.ListN.{length}
 use borrow.Author.Tests.{leb-true}
-use Rattle.basics.specs.Laws.{length-tab}
+use Rattle.basics.proofs.Lists.{length-tab}
 use Rattle.grid_search.specs.declared.GridSearch.{GridSearch}
 use Rattle.table.specs.declared.Row.{Row}
-use Rattle.table.specs.Rows.{rowsOf, laid, keyIn, idIn, xIn, yIn, zIn, Laid}
+use Rattle.table.specs.Rows.{laid, keyIn, idIn, xIn, yIn, zIn, Laid}
+use Rattle.table.specs.Library.{rowsOf, Library, table, write, space, fits, roomy}
 use Rattle.table.proofs.Meaning.{laid-rows}
 use Rattle.table.proofs.All.{same-lengths}
-use Rattle.rows.specs.Library.{Library, table, write, space, fits, roomy}
 use Rattle.rows.proofs.Check.{Whole, whole-sound}
 
 module _ (rows : List Row) (l : Library) where

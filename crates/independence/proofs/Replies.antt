@@ -13,8 +13,9 @@ use Rattle.grid_search.specs.declared.GridSearch.{GridSearch}
 use Rattle.grid_search.specs.Sheet.{sheetOk}
 use Rattle.table.specs.declared.Row.{Row}
 use Rattle.table.specs.Rows.{slotOf, sorted}
-use Rattle.rows.specs.Library.{Library, table, write, Space, space, tooLong, level, fits, roomy, goodRow, sound, libraryTests, Turn}
-use Rattle.rows.specs.Insert.{points, rowsWith, positionTests, roomTests, settle, insertion}
+use Rattle.table.specs.Library.{Library, table, write, Space, space, tooLong, level, fits, roomy}
+use Rattle.rows.specs.Damage.{goodRow, sound, libraryTests}
+use Rattle.rows.specs.Insert.{Turn, points, rowsWith, positionTests, roomTests, settle, insertion}
 use Rattle.search.specs.Search.{nearRows, lowest, searchTests, searchAnswer}
 use Rattle.listing.specs.declared.Filter.{Filter}
 use Rattle.listing.specs.Place.{Asked, isOn, placeTests}

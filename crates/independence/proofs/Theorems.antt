@@ -6,11 +6,13 @@ use mathlib.Core.Option.{Option, none, some}
 use mathlib.Core.List.{List, [], _∷_, _++_, map}
 use borrow.Author.Tests.{le-leb}
 use Rattle.basics.specs.Lists.{all, keep}
-use Rattle.basics.specs.Refusals.{fault, passed}
+use Rattle.basics.specs.Refusals.{fault}
+use Rattle.basics.proofs.Refusals.{passed}
 use Rattle.table.specs.declared.Row.{Row}
 use Rattle.table.specs.Rows.{slotOf, sorted, rowFor, own}
 use Rattle.table.proofs.Ids.{own-own, own-ext}
-use Rattle.rows.specs.Library.{Library, table, space, fits, libraryTests}
+use Rattle.table.specs.Library.{Library, table, space, fits}
+use Rattle.rows.specs.Damage.{libraryTests}
 use Rattle.rows.proofs.Check.{Whole, together, whole}
 use Rattle.independence.specs.Run.{Change, step, run, replies}
 use Rattle.independence.specs.Histories.{history, built, placed}

@@ -15,7 +15,8 @@ use Rattle.grid_search.specs.declared.GridSearch.{GridSearch}
 use Rattle.grid_search.specs.Sheet.{sheetOk}
 use Rattle.table.specs.declared.Row.{Row}
 use Rattle.table.specs.Rows.{Slot, slotOf, sorted, rowFor, own}
-use Rattle.rows.specs.Library.{Library, table, space, tooLong, level, libraryTests}
+use Rattle.table.specs.Library.{Library, table, space, tooLong, level}
+use Rattle.rows.specs.Damage.{libraryTests}
 use Rattle.search.specs.Search.{searchAnswer}
 use Rattle.sorting.specs.Ascent.{ascending}
 use Rattle.listing.specs.declared.Filter.{Filter}

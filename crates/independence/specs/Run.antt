@@ -7,7 +7,7 @@ use mathlib.Core.List.{List, [], _∷_}
 use lib.Ieee.{Float}
 use Rattle.basics.specs.Refusals.{Answer, refused, success}
 use Rattle.grid_search.specs.declared.GridSearch.{GridSearch}
-use Rattle.rows.specs.Library.{Library}
+use Rattle.table.specs.Library.{Library}
 use Rattle.rows.specs.Insert.{insertion}
 use Rattle.search.specs.Search.{searchAnswer}
 use Rattle.listing.specs.declared.Filter.{Filter}

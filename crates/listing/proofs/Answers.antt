@@ -10,17 +10,18 @@ use lib.Dec.{ltb}
 use lib.ListN.{length, getD}
 use lib.Ieee.{Float}
 use borrow.Author.Tests.{ltb-true, ltb-false, leb-true, lt-ltb}
-use Rattle.basics.specs.Bools.{and-left, or-left, or-right}
+use Rattle.basics.proofs.Bools.{and-left, or-left, or-right}
 use Rattle.basics.specs.Lists.{any, tab}
-use Rattle.basics.specs.Laws.{all-at, getD-tab, length-tab}
-use Rattle.basics.specs.Refusals.{Test, refuse, fault, code, unrefused, fault-right, fault-stop, code-none}
+use Rattle.basics.proofs.Lists.{all-at, getD-tab, length-tab}
+use Rattle.basics.specs.Refusals.{Test, refuse, fault, code}
+use Rattle.basics.proofs.Refusals.{unrefused, fault-right, fault-stop, code-none}
 use Rattle.geometry.specs.Position.{dimension}
 use Rattle.grid.specs.Divisions.{counts}
 use Rattle.grid.specs.Containers.{containers}
 use Rattle.grid_search.specs.declared.GridSearch.{GridSearch}
 use Rattle.table.specs.declared.Row.{Row}
-use Rattle.table.specs.Rows.{rowAt, rowsOf}
-use Rattle.rows.specs.Library.{Library, library, table, space, tooLong, fits, goodRow, libraryTests}
+use Rattle.table.specs.Library.{rowAt, rowsOf, Library, library, table, space, tooLong, fits}
+use Rattle.rows.specs.Damage.{goodRow, libraryTests}
 use Rattle.rows.proofs.Check.{Whole, whole, numbered, checked, divided}
 use Rattle.listing.specs.declared.Place.{Place}
 use Rattle.listing.specs.declared.Filter.{Filter}

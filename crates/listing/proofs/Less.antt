@@ -12,11 +12,11 @@ use lib.Ieee.Bits.{is-true}
 use lib.Ieee.Fits.{down-pos}
 use lib.Ieee.Order.{round-mono}
 use borrow.Author.Tests.{ltb-true, ltb-false, le-ltb}
-use Rattle.basics.specs.Bools.{by-test, clash}
+use Rattle.basics.proofs.Bools.{by-test, clash}
 use Rattle.floats.specs.Rounded.{_⊖_}
 use Rattle.floats.specs.Tests.{finite}
-use Rattle.floats.specs.Order.{le-cross, not-lt-le}
-use Rattle.floats.specs.Roots.{to-infinity}
+use Rattle.floats.proofs.Order.{le-cross, not-lt-le}
+use Rattle.floats.proofs.Roots.{to-infinity}
 
 -- ---- values with no minus sign
 

@@ -10,13 +10,13 @@ use lib.Dec.{eqb, leb, ltb}
 use lib.ListN.{length, getD}
 use lib.Ieee.{Float}
 use borrow.Author.Tests.{eqb-true, ne-eqb, not-true, not-false, leb-true, leb-false, le-leb, ltb-false, le-ltb}
-use Rattle.basics.specs.Bools.{by-test, and-left, and-right, or-left, or-right}
+use Rattle.basics.proofs.Bools.{by-test, and-left, and-right, or-left, or-right}
 use Rattle.basics.specs.Lists.{zipWith}
 use Rattle.floats.specs.Rounded.{_⊖_, zeroF}
 use Rattle.floats.specs.Tests.{absOf}
 use Rattle.geometry.specs.declared.Position.{Position}
 use Rattle.geometry.specs.Position.{coords, positionOf, axisOf, dimension}
-use Rattle.geometry.specs.Axes.{two-or-three, coords-of}
+use Rattle.geometry.proofs.Axes.{two-or-three, coords-of}
 use Rattle.grid.specs.Divisions.{counts}
 use Rattle.grid.specs.Containers.{pivots, centre}
 use Rattle.grid_search.specs.declared.GridSearch.{GridSearch}

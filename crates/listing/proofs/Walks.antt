@@ -11,19 +11,19 @@ use lib.ListN.{length, getD, take, drop, set, length-append, length-map, length-
 use lib.Seq.{getD-set-same, getD-set-other, getD-take, take-append-seam, take-suc, take-suc-set, take-set-le, length-take-le, drop-cons, set-at, append-snoc}
 use lib.Ieee.{Float}
 use borrow.Author.Tests.{lt-ltb, le-ltb}
-use Rattle.basics.specs.Bools.{by-test}
+use Rattle.basics.proofs.Bools.{by-test}
 use Rattle.basics.specs.Lists.{keep, tab, enter, over}
-use Rattle.basics.specs.Laws.{map-take}
+use Rattle.basics.proofs.Lists.{map-take}
 use Rattle.basics.specs.Refusals.{fault}
 use Rattle.geometry.specs.declared.Position.{Position}
 use Rattle.geometry.specs.Position.{coords}
 use Rattle.grid_search.specs.declared.GridSearch.{GridSearch}
 use Rattle.table.specs.declared.Row.{Row}
-use Rattle.table.specs.Rows.{rowAt, rowsOf, keyIn, idIn}
+use Rattle.table.specs.Rows.{keyIn, idIn}
+use Rattle.table.specs.Library.{rowAt, rowsOf}
 use Rattle.sorting.specs.Sorted.{distinct}
-use Rattle.sorting.specs.Posts.{within, Below}
-use Rattle.sorting.proofs.Mixes.{getD-map}
-use Rattle.sorting.proofs.Heaps.{by-index}
+use Rattle.sorting.specs.Posts.{markId, Indices}
+use Rattle.sorting.proofs.Mixes.{getD-map, by-index}
 use Rattle.listing.specs.declared.Place.{Place}
 use Rattle.listing.specs.declared.Filter.{Filter}
 use Rattle.listing.specs.declared.Listed.{Listed}
@@ -98,8 +98,8 @@ module _ (s : GridSearch) (p : Place) (f : Filter) (keys ids : List ℕ) (xs ys 
         (λ w. subst (λ (m : ℕ). getD (set marks n i) m 0 < i + 1) (sym w) (subst (λ (v : ℕ). v < i + 1) (sym (getD-set-same marks n i 0 room)) (omega arith)))
         (λ w. subst (λ (v : ℕ). v < i + 1) (sym (getD-set-other marks n k i 0 w)) (omega (arith, g .below k (omega arith))));
     ids-are =
-        ap (map (within ids)) (ap (λ (m : ℕ). take m (set marks n i)) (add-one n) ∙ take-suc-set marks n i room)
-        ∙ map-append (within ids) (take n marks) (i ∷ [])
+        ap (map (markId ids)) (ap (λ (m : ℕ). take m (set marks n i)) (add-one n) ∙ take-suc-set marks n i room)
+        ∙ map-append (markId ids) (take n marks) (i ∷ [])
         ∙ ap (λ (l : List ℕ). l ++ getD ids i 0 ∷ []) (g .ids-are)
         ∙ sym (ids-next i ∙ ap (λ (c : Bool). map idIn (keep on (rowsOf keys ids xs ys zs i)) ++ cond c (getD ids i 0 ∷ []) []) e);
   }
@@ -109,7 +109,7 @@ module _ (s : GridSearch) (p : Place) (f : Filter) (keys ids : List ℕ) (xs ys 
   gathered-behind {i} {n} {marks} v g = record {
     upto = g .upto;
     below = λ k h. subst (λ (m : ℕ). m < i) (sym (getD-set-other marks n k v 0 (λ w. omega arith))) (g .below k h);
-    ids-are = ap (map (within ids)) (take-set-le n marks n v (omega arith)) ∙ g .ids-are;
+    ids-are = ap (map (markId ids)) (take-set-le n marks n v (omega arith)) ∙ g .ids-are;
   }
 
   -- the same marks at the front of another list
@@ -122,7 +122,7 @@ module _ (s : GridSearch) (p : Place) (f : Filter) (keys ids : List ℕ) (xs ys 
       record {
         upto = g .upto;
         below = λ j k. subst (λ (v : ℕ). v < i) (sym (sym (getD-take n (over (take n marks) more) j 0 k) ∙ ap (λ (l : List ℕ). getD l j 0) same ∙ getD-take n marks j 0 k)) (g .below j k);
-        ids-are = ap (map (within ids)) same ∙ g .ids-are;
+        ids-are = ap (map (markId ids)) same ∙ g .ids-are;
       }
 
   -- ---- a walk: its start, one row more, and its end
@@ -171,12 +171,12 @@ module _ (s : GridSearch) (p : Place) (f : Filter) (keys ids : List ℕ) (xs ys 
     gathered = subst (Gathered s p f keys ids xs ys zs (r .row) (r .marked)) (sym e) (gathered-copied more (omega (arith, w .inside)) (w .gathered));
   }
 
-  pub walked-below : {used : ℕ} {r : Reached} {marks : List ℕ} → Walked s p f keys ids xs ys zs used r marks → used ≤ length ids → (r .marked ≤ length marks) × Below (length ids) (r .marked) marks
+  pub walked-below : {used : ℕ} {r : Reached} {marks : List ℕ} → Walked s p f keys ids xs ys zs used r marks → used ≤ length ids → (r .marked ≤ length marks) × Indices (length ids) (r .marked) marks
   walked-below w h = (omega (arith, w .inside), λ j k. omega (arith, w .gathered .below j k, w .upto))
 
   -- where the last row was reached, the ids of the marks are those of the listing
   pub walked-all : {used : ℕ} {r : Reached} {marks list after : List ℕ} {a : Listed} → Walked s p f keys ids xs ys zs used r marks → used ≤ r .row
-      → Out (distinct (map (within ids) (take (r .marked) marks))) list a after → Out (idsOf on (rowsOf keys ids xs ys zs used)) list a after
+      → Out (distinct (map (markId ids) (take (r .marked) marks))) list a after → Out (idsOf on (rowsOf keys ids xs ys zs used)) list a after
   walked-all {used} {r} {marks} {list} {after} {a} w h o =
       let e : r .row ≡ used = omega (arith, w .upto) in
       let g : Gathered s p f keys ids xs ys zs used (r .marked) marks = subst (λ (k : ℕ). Gathered s p f keys ids xs ys zs k (r .marked) marks) e (w .gathered) in
@@ -195,15 +195,15 @@ module _ (s : GridSearch) (p : Asked) (f : Filter) (row : Row) where
 
 -- ---- the two ways out
 
-module _ (ids marks out : List ℕ) (n : ℕ) (inside : n ≤ length marks) (are : map (within ids) (take n marks) ≡ out) (list : List ℕ) where
+module _ (ids marks out : List ℕ) (n : ℕ) (inside : n ≤ length marks) (are : map (markId ids) (take n marks) ≡ out) (list : List ℕ) where
   count : length out ≡ n
-  count = ap length (sym are) ∙ length-map (take n marks) (within ids) ∙ length-take-le n marks inside
+  count = ap length (sym are) ∙ length-map (take n marks) (markId ids) ∙ length-take-le n marks inside
 
   pub out-short : length list < n → Out out list (Refused 14) list
   unfolding listOut fault
   out-short h = let t : ltb (length list) (length out) ≡ true = lt-ltb (length list) (length out) (omega (arith, count)) in record { answers = rw t; list-is = rw t }
 
-  pub out-long : (after : List ℕ) → n ≤ length list → after ≡ over (map (within ids) (take n marks)) list → Out out list (Count n) after
+  pub out-long : (after : List ℕ) → n ≤ length list → after ≡ over (map (markId ids) (take n marks)) list → Out out list (Count n) after
   unfolding listOut fault
   out-long after h e =
       let t : ltb (length list) (length out) ≡ false = le-ltb (length list) (length out) (omega (arith, count)) in
@@ -227,8 +227,8 @@ copied-next new list j h room =
     ∙ ap (λ (r : List ℕ). r ++ drop (length r) list) (sym more)
 
 pub written-next : (keys marks list : List ℕ) (j : ℕ) → j < length marks → j < length list
-    → set (over (map (within keys) (take j marks)) list) j (within keys (getD marks j 0)) ≡ over (map (within keys) (take (j + 1) marks)) list
+    → set (over (map (markId keys) (take j marks)) list) j (markId keys (getD marks j 0)) ≡ over (map (markId keys) (take (j + 1) marks)) list
 written-next keys marks list j h room =
-    ap₂ (λ (l : List ℕ) (y : ℕ). set (over l list) j y) (map-take (within keys) j marks) (sym (getD-map (within keys) marks j h))
-    ∙ copied-next (map (within keys) marks) list j (omega (arith, length-map marks (within keys))) room
-    ∙ ap (λ (l : List ℕ). over l list) (sym (map-take (within keys) (j + 1) marks))
+    ap₂ (λ (l : List ℕ) (y : ℕ). set (over l list) j y) (map-take (markId keys) j marks) (sym (getD-map (markId keys) marks j h))
+    ∙ copied-next (map (markId keys) marks) list j (omega (arith, length-map marks (markId keys))) room
+    ∙ ap (λ (l : List ℕ). over l list) (sym (map-take (markId keys) (j + 1) marks))

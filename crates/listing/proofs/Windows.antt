@@ -7,14 +7,14 @@ use mathlib.Core.Bool.{Bool, true, false, not, _&&_, and-false}
 use lib.IntN.{ℤ}
 use lib.Ieee.{Float, nan, inf, fin, binary64, neg, lt, le, eq, isNan}
 use borrow.Author.Tests.{not-true, not-false}
-use Rattle.basics.specs.Bools.{by-test, clash, and-both}
+use Rattle.basics.proofs.Bools.{by-test, clash, and-both}
 use Rattle.floats.specs.Rounded.{_⊖_, zeroF}
 use Rattle.floats.specs.Sqrt.{sqrtOf}
-use Rattle.floats.specs.Tests.{absOf, finite, within}
-use Rattle.floats.specs.Choice.{abs-abs, within-ends}
-use Rattle.floats.specs.Order.{le-left, le-right, le-join, lt-le, lt-is-not-le}
-use Rattle.floats.specs.Roots.{is-nan, zero-number, no-minus-infinity, zero-least, sqrt-number, sqrt-from-zero}
-use Rattle.floats.specs.Laws.{Binary64, root-monotone, root-sign}
+use Rattle.floats.specs.Tests.{absOf, finite, within, Binary64}
+use Rattle.floats.proofs.Choice.{abs-abs, within-ends}
+use Rattle.floats.proofs.Order.{le-left, le-right, le-join, lt-le, lt-is-not-le}
+use Rattle.floats.proofs.Roots.{is-nan, zero-number, no-minus-infinity, zero-least, sqrt-number, sqrt-from-zero}
+use Rattle.floats.proofs.Laws.{root-monotone, root-sign}
 use Rattle.listing.specs.declared.Place.{Place}
 use Rattle.listing.specs.declared.Place.the-variants as place
 use Rattle.listing.specs.Window.{told, steady, lies}

@@ -12,7 +12,8 @@ use Rattle.basics.specs.Refusals.{Test, refuse, fault, Answer, refused, success
 use Rattle.grid_search.specs.declared.GridSearch.{GridSearch}
 use Rattle.table.specs.declared.Row.{Row}
 use Rattle.table.specs.Rows.{idIn}
-use Rattle.rows.specs.Library.{Library, table, libraryTests}
+use Rattle.table.specs.Library.{Library, table}
+use Rattle.rows.specs.Damage.{libraryTests}
 use Rattle.listing.specs.declared.Filter.{Filter}
 use Rattle.listing.specs.declared.Listed.{Listed}
 use Rattle.listing.specs.declared.Listed.the-variants.{Count, Refused}

@@ -13,9 +13,10 @@ use Rattle.geometry.specs.Position.{dimension}
 use Rattle.grid.specs.Divisions.{counts}
 use Rattle.grid.specs.Containers.{containers}
 use Rattle.grid_search.specs.declared.GridSearch.{GridSearch}
-use Rattle.table.specs.Rows.{rowsOf, idIn}
+use Rattle.table.specs.Rows.{idIn}
+use Rattle.table.specs.Library.{rowsOf}
 use Rattle.rows.specs.Posts.{Checked}
-use Rattle.sorting.specs.Posts.{within, Below}
+use Rattle.sorting.specs.Posts.{markId, Indices}
 use Rattle.listing.specs.declared.Place.{Place}
 use Rattle.listing.specs.declared.Filter.{Filter}
 use Rattle.listing.specs.declared.Listed.{Listed}
@@ -44,8 +45,8 @@ Remembered s p keys i near = 0 < i → near ≡ containerNear s (asked (s .ndim)
 -- n of the first i rows count, and the first n marks are their indices
 pub record Gathered (s : GridSearch) (p : Place) (f : Filter) (keys ids : List ℕ) (xs ys zs : List Float) (i n : ℕ) (marks : List ℕ) : Type 0 where
   pub upto : n ≤ i
-  pub below : Below i n marks
-  pub ids-are : map (within ids) (take n marks) ≡ map idIn (keep (isOn s (asked (s .ndim) p) f) (rowsOf keys ids xs ys zs i))
+  pub below : Indices i n marks
+  pub ids-are : map (markId ids) (take n marks) ≡ map idIn (keep (isOn s (asked (s .ndim) p) f) (rowsOf keys ids xs ys zs i))
 
 -- a walk came to a row, and has marked the rows before it that count; there is a place for one more
 pub record Walked (s : GridSearch) (p : Place) (f : Filter) (keys ids : List ℕ) (xs ys zs : List Float) (used : ℕ) (r : Reached) (marks : List ℕ) : Type 0 where

@@ -6,8 +6,7 @@ use mathlib.Core.Bool.{Bool, true, false, _&&_}
 use lib.Ieee.{Float, inf, neg, lt, le}
 use Rattle.floats.specs.Rounded.{_⊖_, zeroF}
 use Rattle.floats.specs.Sqrt.{sqrtOf}
-use Rattle.floats.specs.Tests.{absOf, finite}
-use Rattle.floats.specs.Laws.{Binary64}
+use Rattle.floats.specs.Tests.{absOf, finite, Binary64}
 use Rattle.geometry.specs.declared.Position.{Position}
 use Rattle.geometry.specs.declared.Line.{Line}
 use Rattle.geometry.specs.Distances.{lineOf}

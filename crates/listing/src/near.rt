@@ -6,7 +6,7 @@ ghost use Rattle.basics.specs.Lists.{all};
 ghost use mathlib.Core.Logic.{_⊎_};
 ghost use lib.Ieee.{Float, inf, neg, lt, le};
 ghost use Rattle.floats.specs.Rounded.{_⊕_, zeroF};
-ghost use Rattle.floats.specs.Laws.{Binary64};
+ghost use Rattle.floats.specs.Tests.{Binary64};
 ghost use Rattle.geometry.specs.Position.{coords, dimension};
 ghost use Rattle.grid.specs.Divisions.{counts, division};
 ghost use Rattle.grid.specs.Containers.{containers};

@@ -6,9 +6,9 @@ ghost use mathlib.Core.Bool.{true, false, cond};
 ghost use mathlib.Core.List.{map};
 ghost use lib.ListN.{length, getD, take};
 ghost use Rattle.basics.specs.Lists.{over};
-ghost use Rattle.table.specs.Rows.{rowAt, rowsOf};
+ghost use Rattle.table.specs.Library.{rowAt, rowsOf};
 ghost use Rattle.sorting.specs.Sorted.{distinct};
-ghost use Rattle.sorting.specs.Posts.{within, Below};
+ghost use Rattle.sorting.specs.Posts.{markId, Indices};
 ghost use Rattle.listing.specs.Place.{asked, isOn, containerNear};
 ghost use Rattle.floats.specs.Rounded.{_⊕_};
 ghost use Rattle.listing.specs.Window.{Made};
@@ -162,15 +162,15 @@ fn gather(
 // The id of a mark.
 fn id_of(ids: &[u64], mark: u16) -> u64
     requires { ⌜ mark < length (now ids) ⌝ }
-    ensures { λ r. ⌜ r ≡ within (now (ids .entry)) mark ⌝ }
+    ensures { λ r. ⌜ r ≡ markId (now (ids .entry)) mark ⌝ }
 {
     ids[mark as usize]
 }
 
 // Writes the ids of the first n marks to the front of the list.
 fn write_ids(marks: &[u16], n: usize, ids: &[u64], list: &mut [u64])
-    requires { ⌜ n ≤ length (now marks) ⌝ ∗ ⌜ n ≤ length (now list) ⌝ ∗ ⌜ Below (length (now ids)) n (now marks) ⌝ }
-    ensures { λ _. ⌜ now (list .exit) ≡ over (map (within (now (ids .entry))) (take n (now (marks .entry)))) (now (list .entry)) ⌝ }
+    requires { ⌜ n ≤ length (now marks) ⌝ ∗ ⌜ n ≤ length (now list) ⌝ ∗ ⌜ Indices (length (now ids)) n (now marks) ⌝ }
+    ensures { λ _. ⌜ now (list .exit) ≡ over (map (markId (now (ids .entry))) (take n (now (marks .entry)))) (now (list .entry)) ⌝ }
 {
     let mut j = 0;
     while j < n {
@@ -181,8 +181,8 @@ fn write_ids(marks: &[u16], n: usize, ids: &[u64], list: &mut [u64])
 
 // Writes the ids of the first n marks to the front of the list, ascending and once each: how many they are, or 14.
 fn list_marked(marks: &mut [u16], n: usize, ids: &[u64], list: &mut [u64]) -> Listed
-    requires { ⌜ n ≤ length (now marks) ⌝ ∗ ⌜ Below (length (now ids)) n (now marks) ⌝ }
-    ensures { λ r. ⌜ Out (distinct (map (within (now (ids .entry))) (take n (now (marks .entry))))) (now (list .entry)) r (now (list .exit)) ⌝ }
+    requires { ⌜ n ≤ length (now marks) ⌝ ∗ ⌜ Indices (length (now ids)) n (now marks) ⌝ }
+    ensures { λ r. ⌜ Out (distinct (map (markId (now (ids .entry))) (take n (now (marks .entry))))) (now (list .entry)) r (now (list .exit)) ⌝ }
 {
     let m = sorting::select_by(marks, n, ids);
     if list.len() < m {

@@ -13,12 +13,12 @@ use lib.Dec.{eqb}
 use lib.ListN.{length, take, drop, length-append, length-drop}
 use lib.Seq.{drop-append-le, take-append-le, drop-append-add}
 use borrow.Author.Tests.{eq-eqb, eqb-true}
-use Rattle.basics.specs.Bools.{which}
+use Rattle.basics.proofs.Bools.{which}
 use Rattle.basics.specs.Lists.{tab}
 use Rattle.basics.specs.Refusals.{Answer, refused, success, refuse, fault}
 use Rattle.grid_search.specs.declared.GridSearch.{GridSearch}
-use Rattle.rows.specs.Library.{Library, Turn}
-use Rattle.rows.specs.Insert.{insertion}
+use Rattle.table.specs.Library.{Library}
+use Rattle.rows.specs.Insert.{Turn, insertion}
 use Rattle.records.specs.declared.Record.{Record}
 use Rattle.records.specs.Records.{littleEndian, numberAt, floatAt, recordAt}
 use Rattle.loading.specs.Loading.{placeOf, unless, recordsOf, andThen, insertAll, leftover, finish, insertBytes}

@@ -12,14 +12,14 @@ use lib.ListN.{length, drop, drop-of-length-le}
 use lib.Ieee.{Float}
 use borrow.Author.Tests.{eq-eqb, ne-eqb}
 use Rattle.basics.specs.Lists.{tab}
-use Rattle.basics.specs.Laws.{length-tab, drop-tab}
+use Rattle.basics.proofs.Lists.{length-tab, drop-tab}
 use Rattle.basics.specs.Refusals.{Answer, refused, success, fault}
 use Rattle.grid_search.specs.declared.GridSearch.{GridSearch}
 use Rattle.table.specs.declared.Row.{Row}
 use Rattle.rows.specs.declared.Inserted.{Inserted}
 use Rattle.rows.specs.declared.Inserted.the-variants.{Stored, Refused}
-use Rattle.rows.specs.Library.{Library, library, table, write, Turn}
-use Rattle.rows.specs.Insert.{insertion, insertTests, rowsWith, settle, inserted, Gives}
+use Rattle.table.specs.Library.{Library, library, table, write}
+use Rattle.rows.specs.Insert.{Turn, insertion, insertTests, rowsWith, settle, inserted, Gives}
 use Rattle.records.specs.declared.Record.{Record}
 use Rattle.records.specs.Records.{recordAt}
 use Rattle.loading.specs.Loading.{placeOf, unless, recordsOf, andThen, insertAll, leftover, finish, insertBytes}

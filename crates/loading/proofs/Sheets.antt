@@ -10,7 +10,7 @@ use lib.ListN.{length}
 use borrow.Author.Tests.{eq-eqb, ne-eqb}
 use Rattle.basics.specs.Refusals.{refused, fault}
 use Rattle.geometry.specs.Position.{dimension}
-use Rattle.geometry.specs.Axes.{two-or-three}
+use Rattle.geometry.proofs.Axes.{two-or-three}
 use Rattle.grid_search.specs.declared.GivenU64.the-variants as number
 use Rattle.grid_search.specs.declared.GivenF64.the-variants as float
 use Rattle.grid_search.specs.Sheet.{newSheet}

@@ -15,8 +15,8 @@ use Rattle.grid_search.specs.declared.GivenU64.the-variants as number
 use Rattle.grid_search.specs.declared.GivenF64.the-variants as float
 use Rattle.grid_search.specs.declared.GridSearch.{GridSearch}
 use Rattle.grid_search.specs.Sheet.{newSheet}
-use Rattle.rows.specs.Library.{Library, Turn}
-use Rattle.rows.specs.Insert.{insertion}
+use Rattle.table.specs.Library.{Library}
+use Rattle.rows.specs.Insert.{Turn, insertion}
 use Rattle.records.specs.declared.Record.{Record}
 use Rattle.records.specs.Records.{recordAt}
 

@@ -4,7 +4,7 @@ ghost use mathlib.Core.Path.{_≡_};
 ghost use Rattle.geometry.specs.declared.Position.{Position};
 ghost use Rattle.geometry.specs.Position.{coords};
 ghost use Rattle.grid_search.specs.Sheet.{made};
-ghost use Rattle.rows.specs.Library.{library};
+ghost use Rattle.table.specs.Library.{library};
 ghost use Rattle.rows.specs.Insert.{insertion, Gives};
 ghost use Rattle.loading.specs.Loading.{placeOf, sheetOf, insertBytes};
 use grid_search::GivenF64;

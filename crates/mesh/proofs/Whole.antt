@@ -12,10 +12,10 @@ use lib.ListN.{length, getD, take, drop, length-take, length-drop, drop-of-lengt
 use lib.Seq.{drop-cons, getD-take, getD-drop, ext-getD}
 use lib.Ieee.{Float, nan}
 use borrow.Author.Tests.{ltb-true, not-false}
-use Rattle.basics.specs.Bools.{or-right}
+use Rattle.basics.proofs.Bools.{or-right}
 use Rattle.basics.specs.Lists.{all, tab}
-use Rattle.basics.specs.Laws.{all-at, length-tab, getD-tab, map-tab}
-use Rattle.geometry.specs.Axes.{few-axes}
+use Rattle.basics.proofs.Lists.{all-at, length-tab, getD-tab, map-tab}
+use Rattle.geometry.proofs.Axes.{few-axes}
 use Rattle.mesh.specs.Mesh.{Mesh, pointCount, cellCount, brokenMesh, Whole, pointAt, cornersOf, cornerPoints}
 
 -- the whole parts of a list

@@ -14,7 +14,7 @@ use Rattle.basics.specs.Refusals.{Answer, refused, success}
 use Rattle.geometry.specs.declared.Position.{Position}
 use Rattle.geometry.specs.Position.{positionOf, dimension}
 use Rattle.mesh.specs.Mesh.{Mesh, pointCount, cellCount, pointAt, cornerPoints}
-use Rattle.geometry.specs.Axes.{few-axes}
+use Rattle.geometry.proofs.Axes.{few-axes}
 use Rattle.mesh.proofs.Whole.{corner-at}
 use Rattle.mesh_view.specs.View.{isCorner, named, cornerOf}
 

@@ -12,9 +12,10 @@ use Rattle.grid_search.specs.declared.GridSearch.{GridSearch}
 use Rattle.grid_search.specs.declared.GivenU64.the-variants as number
 use Rattle.grid_search.specs.declared.GivenF64.the-variants as float
 use Rattle.grid_search.specs.Sheet.{newSheet, sheetOk}
-use Rattle.grid_search.specs.Remade.{made-good}
-use Rattle.rows.specs.Library.{Library, library, table, space, level, tooLong, libraryTests, Turn}
-use Rattle.rows.specs.Insert.{insertion}
+use Rattle.grid_search.proofs.Remade.{made-good}
+use Rattle.table.specs.Library.{Library, library, table, space, level, tooLong}
+use Rattle.rows.specs.Damage.{libraryTests}
+use Rattle.rows.specs.Insert.{Turn, insertion}
 use Rattle.records.specs.declared.Record.{Record}
 use Rattle.records.specs.Records.{recordAt}
 use Rattle.display.specs.Display.{displayText}

@@ -12,9 +12,11 @@ use lib.Seq.{take-append-seam}
 use lib.Ieee.{Float}
 use borrow.Author.Tests.{le-ltb}
 use Rattle.basics.specs.Lists.{over}
-use Rattle.basics.specs.Refusals.{Test, refuse, fault, refused, success, fault-left, fault-right, fault-stop}
+use Rattle.basics.specs.Refusals.{Test, refuse, fault, refused, success}
+use Rattle.basics.proofs.Refusals.{fault-left, fault-right, fault-stop}
 use Rattle.grid_search.specs.declared.GridSearch.{GridSearch}
-use Rattle.rows.specs.Library.{Library, library, table, libraryTests}
+use Rattle.table.specs.Library.{Library, library, table}
+use Rattle.rows.specs.Damage.{libraryTests}
 use Rattle.rows.proofs.Check.{whole, whole-sound, divided}
 use Rattle.text.specs.Text.{Put}
 use Rattle.text.proofs.Laws.{put-over, decimal-20}

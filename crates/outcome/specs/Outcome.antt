@@ -8,7 +8,9 @@ use lib.Ieee.{Float}
 use Rattle.basics.specs.Refusals.{Answer, refused, success, fault}
 use Rattle.floats.specs.Rounded.{zeroF}
 use Rattle.grid_search.specs.declared.GridSearch.{GridSearch}
-use Rattle.rows.specs.Library.{Library, library, table, libraryTests, Turn}
+use Rattle.table.specs.Library.{Library, library, table}
+use Rattle.rows.specs.Damage.{libraryTests}
+use Rattle.rows.specs.Insert.{Turn}
 use Rattle.display.specs.Display.{displayText, refusal}
 use Rattle.loading.specs.Loading.{sheetIn, insertBytes}
 

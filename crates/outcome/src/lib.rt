@@ -2,7 +2,7 @@
 ghost use Prim.Native.Nat.{_≤_};
 ghost use mathlib.Core.Path.{_≡_};
 ghost use lib.ListN.{length, take};
-ghost use Rattle.rows.specs.Library.{library};
+ghost use Rattle.table.specs.Library.{library};
 ghost use Rattle.rows.specs.Insert.{inserted};
 ghost use Rattle.display.specs.Display.{refusal};
 ghost use Rattle.outcome.specs.Outcome.{libraryText, outcomeText};

@@ -1,11 +1,9 @@
 -- The key and the centre of a container, of any arguments.
 -- Assumes nothing.
 use Prim.Native.Nat.{ℕ, _-_, _^_}
-use mathlib.Core.Path.{_≡_}
-use mathlib.Core.Bool.{Bool, true, cond, _&&_}
+use mathlib.Core.Bool.{Bool, cond, _&&_}
 use lib.Dec.{ltb}
 use lib.Ieee.{Float}
-use Rattle.basics.specs.Bools.{and-both}
 use Rattle.basics.specs.Lists.{all}
 use Rattle.geometry.specs.declared.Position.{Position}
 use Rattle.geometry.specs.Position.{coords, positionOf, dimension}
@@ -26,16 +24,11 @@ keyNumber (Key k) = k .0
 keyNumber Exceeds = 2 ^ 64 - 2
 
 -- and the largest one where there is no such grid
-unfoldable pub keyIn : ℕ → Divisions → Float → Position → Position → ℕ
+unfoldable pub keyProbed : ℕ → Divisions → Float → Position → Position → ℕ
 unfolding isGrid located
-keyIn n d side xmin x = cond (isGrid n d) (keyNumber (located (counts n d) side (coords n xmin) (coords n x))) (2 ^ 64 - 1)
+keyProbed n d side xmin x = cond (isGrid n d) (keyNumber (located (counts n d) side (coords n xmin) (coords n x))) (2 ^ 64 - 1)
 
 -- the centre of a container; what was there, where there is no such container
-unfoldable pub centreIn : ℕ → Divisions → Float → Position → ℕ → Position → Position
+unfoldable pub centreProbed : ℕ → Divisions → Float → Position → ℕ → Position → Position
 unfolding isGrid containers centre pivots
-centreIn n d side xmin key old = cond (isGrid n d && ltb key (containers (counts n d))) (positionOf (centre side (coords n xmin) (pivots (counts n d) key))) old
-
--- ---- what the test of a grid says
-pub grid-parts : (n : ℕ) (d : Divisions) → isGrid n d ≡ true → (dimension n ≡ true) × (all division (counts n d) ≡ true)
-unfolding isGrid
-grid-parts n d h = and-both (dimension n) (all division (counts n d)) h
+centreProbed n d side xmin key old = cond (isGrid n d && ltb key (containers (counts n d))) (positionOf (centre side (coords n xmin) (pivots (counts n d) key))) old

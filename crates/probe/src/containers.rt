@@ -5,7 +5,7 @@ ghost use lib.Dec.{ltb};
 ghost use Rattle.geometry.specs.Position.{positionOf};
 ghost use Rattle.grid.specs.Divisions.{counts};
 ghost use Rattle.grid.specs.Containers.{containers};
-ghost use Rattle.probe.specs.Containers.{isGrid, keyNumber, keyIn, centreIn};
+ghost use Rattle.probe.specs.Containers.{isGrid, keyNumber, keyProbed, centreProbed};
 use geometry::Position;
 use grid::ContainerKey;
 use grid::Divisions;
@@ -39,7 +39,7 @@ pub extern "C" fn probe_container_key(
     xmin: &[f64],
     x: &[f64],
 ) -> u64
-    ensures { λ r. ⌜ r ≡ keyIn ndim (record { x = nx; y = ny; z = nz }) «side_length» (positionOf (now (xmin .entry))) (positionOf (now (x .entry))) ⌝ }
+    ensures { λ r. ⌜ r ≡ keyProbed ndim (record { x = nx; y = ny; z = nz }) «side_length» (positionOf (now (xmin .entry))) (positionOf (now (x .entry))) ⌝ }
 {
     let ndiv = Divisions {
         x: nx,
@@ -81,7 +81,7 @@ pub extern "C" fn probe_container_center(
     cz: &mut f64,
 )
     ensures { λ _. ⌜ record { x = now (cx .exit); y = now (cy .exit); z = now (cz .exit) }
-        ≡ centreIn ndim (record { x = nx; y = ny; z = nz }) «side_length» (positionOf (now (xmin .entry))) key (record { x = now (cx .entry); y = now (cy .entry); z = now (cz .entry) }) ⌝ }
+        ≡ centreProbed ndim (record { x = nx; y = ny; z = nz }) «side_length» (positionOf (now (xmin .entry))) key (record { x = now (cx .entry); y = now (cy .entry); z = now (cz .entry) }) ⌝ }
 {
     let ndiv = Divisions {
         x: nx,

@@ -11,7 +11,7 @@ use lib.ListN.{length, getD, take, drop, set, length-append}
 use lib.Seq.{drop-cons, sets}
 use lib.Ieee.{Float, nan, inf, fin, binary64, ofBits, toBits, isNan, nanBits}
 use lib.Ieee.Bits.{nanBits-is, nanBits-above}
-use Rattle.basics.specs.Stores.{sets-whole}
+use Rattle.basics.proofs.Stores.{sets-whole}
 use Rattle.records.specs.declared.Record.{Record}
 use Rattle.records.specs.Records.{littleEndian, numberAt, bytesOf, floatBytes, recordBytes}
 

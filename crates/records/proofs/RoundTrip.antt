@@ -10,7 +10,7 @@ use borrow.Author.Tests.{ltb-true, ltb-false}
 use lib.Dec.{T, ltb}
 use lib.ListN.{length, getD, take, drop, take-append-drop, length-take, length-drop, List·getD-eq-default}
 use lib.Seq.{drop-drop, take-all, getD-take, getD-drop}
-use Rattle.basics.specs.Bools.{by-test}
+use Rattle.basics.proofs.Bools.{by-test}
 use lib.Ieee.{Float, binary64, fits, isNan, ofBits, toBits, top}
 use lib.Ieee.Bits.{ofBits-toBits, toBits-ofBits, toBits-lt}
 use Rattle.records.specs.declared.Record.{Record}

@@ -13,7 +13,8 @@ use Rattle.geometry.specs.Distances.{pointPoint}
 use Rattle.grid_search.specs.declared.GridSearch.{GridSearch}
 use Rattle.table.specs.declared.Row.{Row}
 use Rattle.table.specs.Rows.{keyIn, idIn}
-use Rattle.rows.specs.Library.{Library, table, libraryTests}
+use Rattle.table.specs.Library.{Library, table}
+use Rattle.rows.specs.Damage.{libraryTests}
 use Rattle.rows.specs.Insert.{containerOf, positionTests}
 use Rattle.search.specs.declared.Found.{Found}
 use Rattle.search.specs.declared.Found.the-variants.{Id, Nothing, Refused}
@@ -37,11 +38,16 @@ unfoldable pub lowerOf : ℕ → Option ℕ → Option ℕ
 lowerOf i none = some i
 lowerOf i (some j) = some (min i j)
 
--- the choice: the lowest id
+-- the lowest id
 unfoldable pub lowest : List Row → Option ℕ
 unfolding lowerOf
 lowest [] = none
 lowest (r ∷ rows) = lowerOf (idIn r) (lowest rows)
+
+-- the choice among the rows near a position: the lowest id
+unfoldable pub chosen : GridSearch → List Float → List Row → Option ℕ
+unfolding lowest
+chosen s x rows = lowest rows
 
 -- 24, 13, 2, 3, 11, 17
 unfoldable pub searchTests : GridSearch → Library → List Float → List Test
@@ -50,8 +56,8 @@ searchTests s l x = libraryTests s l ++ positionTests s x (x ∷ [])
 
 -- the id found, or none, or the refusal
 unfoldable pub searchAnswer : GridSearch → Library → List Float → Answer (Option ℕ)
-unfolding fault searchTests lowest nearRows table answer
-searchAnswer s l x = answer (fault (searchTests s l x)) (lowest (nearRows s x (table l)))
+unfolding fault searchTests chosen nearRows table answer
+searchAnswer s l x = answer (fault (searchTests s l x)) (chosen s x (nearRows s x (table l)))
 
 abbrev pub found : Found → Answer (Option ℕ)
 found (Id i) = success (some (i .0))

@@ -12,9 +12,9 @@ use lib.ListN.{length, take, drop, getD, length-append, take-append-drop, List·
 use lib.Seq.{sets, length-sets, take-suc, length-take-le, take-append-seam}
 use borrow.Author.Tests.{lt-ltb, le-ltb, ltb-true, ltb-false}
 use mathlib.Core.Logic.{_⊎_, inl, inr}
-use Rattle.basics.specs.Bools.{which, by-test}
+use Rattle.basics.proofs.Bools.{which, by-test}
 use Rattle.basics.specs.Lists.{over}
-use Rattle.basics.specs.Stores.{sets-append, sets-front}
+use Rattle.basics.proofs.Stores.{sets-append, sets-front}
 use Rattle.text.specs.Text.{ascii, digit, digits, decimal, valueFrom, value, entryText, entries, listText, Put}
 
 -- ---- texts in a buffer

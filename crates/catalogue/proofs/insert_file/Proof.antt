@@ -4,7 +4,7 @@ use native.Mathlib.Omega.{arith}
 use mathlib.Core.Path.{refl}
 use mathlib.Core.Option.{none}
 use borrow.Author.Needs.{needs}
-use Rattle.rows.specs.Library.{library}
+use Rattle.table.specs.Library.{library}
 use Rattle.catalogue.specs.Files.{MoreRead}
 use Rattle.catalogue.proofs.Laws.{start, more, last, stopped, ended}
 use Rattle.catalogue.proofs.insert_file.Statement.{statement}

@@ -1,7 +1,7 @@
 -- The bytes are those that were read.
 -- Assumes nothing.
 use borrow.Author.Needs.{needs}
-use Rattle.rows.specs.Library.{library}
+use Rattle.table.specs.Library.{library}
 use Rattle.catalogue.proofs.Laws.{part}
 use Rattle.catalogue.proofs.insert_part.Statement.{statement}
 use Rattle.catalogue.proofs.insert_part.Tie as tie

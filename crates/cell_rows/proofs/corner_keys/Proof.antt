@@ -3,7 +3,7 @@ use Prim.Native.Nat.{_≤_, _-_}
 use native.Mathlib.Omega.{arith}
 use mathlib.Core.Path.{sym, _∙_}
 use borrow.Author.Needs.{needs}
-use Rattle.geometry.specs.Axes.{corners-most}
+use Rattle.geometry.proofs.Axes.{corners-most}
 use Rattle.cell_rows.proofs.Corners.{key-small, Walked, walk-start, walk-next, walk-far, walk-end, is-key, is-far}
 use Rattle.geometry.specs.Position.{coords}
 use Rattle.cell_rows.proofs.corner_keys.Statement.{statement}

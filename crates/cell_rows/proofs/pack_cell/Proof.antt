@@ -9,7 +9,7 @@ use lib.Dec.{ltb}
 use borrow.Author.Tests.{ltb-true}
 use borrow.Author.Needs.{needs}
 use Rattle.cell_rows.proofs.Over.{paste-map}
-use Rattle.basics.specs.Laws.{all-at}
+use Rattle.basics.proofs.Lists.{all-at}
 use Rattle.cell_rows.specs.Steps.{pack}
 use Rattle.cell_rows.proofs.pack_cell.Statement.{statement}
 use Rattle.cell_rows.proofs.pack_cell.Tie as tie

@@ -6,7 +6,7 @@ use mathlib.Core.List.{List, [], _∷_}
 use lib.ListN.{length, take, getD, set, length-set}
 use lib.Ieee.{Float, nan}
 use Rattle.basics.specs.Lists.{over}
-use Rattle.geometry.specs.Axes.{few-axes}
+use Rattle.geometry.proofs.Axes.{few-axes}
 use Rattle.cell_rows.proofs.Over.{over-none, over-next}
 use Rattle.cell_search.proofs.write_zeta.Statement.{statement}
 use Rattle.cell_search.proofs.write_zeta.Tie as tie

@@ -2,7 +2,7 @@
 -- Assumes nothing.
 use native.Mathlib.Omega.{arith}
 use mathlib.Core.Path.{sym, _∙_}
-use Rattle.rows.specs.Library.{library}
+use Rattle.table.specs.Library.{library}
 use Rattle.rows.proofs.Check.{numbered, whole, whole-sound, divided}
 use Rattle.display.proofs.Answers.{refused-library, past-library, few, text-of-slots}
 use borrow.Author.Needs.{needs}

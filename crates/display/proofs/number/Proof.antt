@@ -8,7 +8,7 @@ use lib.ListN.{length, set, length-set}
 use lib.Seq.{getD-set-same, getD-set-other}
 use lib.Arith.{lt-of-le-ne}
 use borrow.Author.Tests.{eqb-true, eqb-false}
-use Rattle.basics.specs.Bools.{by-test}
+use Rattle.basics.proofs.Bools.{by-test}
 use Rattle.display.specs.Posts.{Numbered}
 use borrow.Author.Needs.{needs}
 use native.Mathlib.Omega.{arith}

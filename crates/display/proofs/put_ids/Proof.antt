@@ -6,7 +6,7 @@ use mathlib.Core.Path.{_≡_, sym, ap, _∙_}
 use mathlib.Core.List.{map}
 use lib.ListN.{length, take, getD, length-append}
 use lib.Seq.{take-all}
-use Rattle.sorting.specs.Posts.{within}
+use Rattle.sorting.specs.Posts.{markId}
 use Rattle.text.specs.Text.{entries, listText, Put}
 use Rattle.text.proofs.Laws.{put-nothing, put-both, put-length, entries-more, entries-front, list-length}
 use borrow.Author.Needs.{needs}
@@ -16,13 +16,13 @@ use Rattle.display.proofs.put_ids.Tie as tie
 
 abbrev Inv-loop : tie.InvT-loop
 Inv-loop buffer₀ at ids order n next₀ i₀ buffer next i =
-    (i ≤ n) × Put (entries 0 (take i (map (within ids) (take n order)))) buffer₀ next₀ buffer next
+    (i ≤ n) × Put (entries 0 (take i (map (markId ids) (take n order)))) buffer₀ next₀ buffer next
 
 abbrev μ-loop : tie.MeasureT-loop
 μ-loop buffer₀ at ids order n next₀ i₀ buffer next i = n - i
 
 put-byte-requires : tie.Need-put-byte-requires Inv-loop μ-loop
-put-byte-requires c κs = omega (arith, list-length (map (within (c .before .before .before .before .args .ids .now)) (take (c .before .before .before .before .args .n) (c .before .before .before .before .args .order .now))))
+put-byte-requires c κs = omega (arith, list-length (map (markId (c .before .before .before .before .args .ids .now)) (take (c .before .before .before .before .args .n) (c .before .before .before .before .args .order .now))))
 
 loop-holds : tie.Need-loop-holds Inv-loop μ-loop
 unfolding entries
@@ -42,7 +42,7 @@ put-entry-requires c κs =
     let ids = c .before .before .before .before .before .before .before .before .before .before .before .before .args .ids .now in
     let order = c .before .before .before .before .before .before .before .before .before .before .before .before .args .order .now in
     let n = c .before .before .before .before .before .before .before .before .before .before .before .before .args .n in
-    let numbers = map (within ids) (take n order) in
+    let numbers = map (markId ids) (take n order) in
     let i = c .before .before .before .before .loop .i in
     let inside : n ≤ length order = c .before .before .before .before .before .before .before .before .before .before .before .before .pre .0 in
     let short : i < n = search needs in
@@ -74,8 +74,8 @@ loop-again c = (
       let i = c .before .before .before .before .before .before .before .loop .i in
       let inside : n ≤ length order = c .before .before .before .before .before .before .before .before .before .before .before .before .before .before .before .pre .0 in
       let short : i < n = search needs in
-      let this : c .before .before .before .id-at .result ≡ getD (map (within ids) (take n order)) i 0 = c .before .before .before .id-at .ensures ∙ sym (names-at ids order n inside i short) in
-      rw (entries-more (map (within ids) (take n order)) i (rw (names-length ids order n inside) short))
+      let this : c .before .before .before .id-at .result ≡ getD (map (markId ids) (take n order)) i 0 = c .before .before .before .id-at .ensures ∙ sym (names-at ids order n inside i short) in
+      rw (entries-more (map (markId ids) (take n order)) i (rw (names-length ids order n inside) short))
       (put-both (c .before .before .before .before .before .before .before .loop .inv .1) (rw this at (c .before .before .put-entry .ensures))),
 )
 
@@ -83,8 +83,8 @@ put-byte-requires-2 : tie.Need-put-byte-requires-2 Inv-loop μ-loop
 put-byte-requires-2 c κs =
     omega (
       arith,
-      list-length (map (within (c .before .before .before .before .before .before .before .before .before .before .args .ids .now)) (take (c .before .before .before .before .before .before .before .before .before .before .args .n) (c .before .before .before .before .before .before .before .before .before .before .args .order .now))),
-      entries-front (map (within (c .before .before .before .before .before .before .before .before .before .before .args .ids .now)) (take (c .before .before .before .before .before .before .before .before .before .before .args .n) (c .before .before .before .before .before .before .before .before .before .before .args .order .now))) (c .before .before .loop .i),
+      list-length (map (markId (c .before .before .before .before .before .before .before .before .before .before .args .ids .now)) (take (c .before .before .before .before .before .before .before .before .before .before .args .n) (c .before .before .before .before .before .before .before .before .before .before .args .order .now))),
+      entries-front (map (markId (c .before .before .before .before .before .before .before .before .before .before .args .ids .now)) (take (c .before .before .before .before .before .before .before .before .before .before .args .n) (c .before .before .before .before .before .before .before .before .before .before .args .order .now))) (c .before .before .loop .i),
       c .before .before .loop .inv .1 .past,
     )
 
@@ -97,7 +97,7 @@ returns c =
     let ids = c .before .before .before .before .before .before .before .before .before .before .before .before .before .args .ids .now in
     let order = c .before .before .before .before .before .before .before .before .before .before .before .before .before .args .order .now in
     let n = c .before .before .before .before .before .before .before .before .before .before .before .before .before .args .n in
-    let numbers = map (within ids) (take n order) in
+    let numbers = map (markId ids) (take n order) in
     let all : length numbers ≤ c .before .before .before .before .before .loop .i = rw (names-length ids order n (c .before .before .before .before .before .before .before .before .before .before .before .before .before .pre .0)) (search needs) in
     put-both (c .before .before .before .before .before .before .before .before .put-byte .ensures) (put-both (rw (take-all (c .before .before .before .before .before .loop .i) numbers all) at (c .before .before .before .before .before .loop .inv .1)) (c .before .before .put-byte2 .ensures))
 

@@ -6,7 +6,7 @@ use Prim.Native.Nat.{_-_, _/_}
 use native.Mathlib.Omega.{arith}
 use borrow.Author.Needs.{needs}
 use Rattle.floats.proofs.Cases.{finite-no-nan}
-use Rattle.floats.specs.Order.{eq-left}
+use Rattle.floats.proofs.Order.{eq-left}
 use Rattle.floats.proofs.guess.Statement.{statement}
 use Rattle.floats.proofs.guess.Tie as tie
 use Rattle.floats.proofs.guess.Reads as reads

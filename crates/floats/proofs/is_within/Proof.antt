@@ -1,6 +1,6 @@
 -- `floats::is_within` meets its contract. Assumes nothing.
 use mathlib.Core.Path.{sym}
-use Rattle.floats.specs.Choice.{within-ends}
+use Rattle.floats.proofs.Choice.{within-ends}
 use Rattle.floats.proofs.is_within.Statement.{statement}
 use Rattle.floats.proofs.is_within.Tie as tie
 

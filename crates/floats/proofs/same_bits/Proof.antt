@@ -1,6 +1,6 @@
 -- `floats::same_bits` meets its contract. Assumes nothing.
 use Rattle.floats.specs.Tests.{sameBits}
-use Rattle.floats.specs.Order.{eq-left, eq-right}
+use Rattle.floats.proofs.Order.{eq-left, eq-right}
 use Rattle.floats.proofs.same_bits.Statement.{statement}
 use Rattle.floats.proofs.same_bits.Tie as tie
 

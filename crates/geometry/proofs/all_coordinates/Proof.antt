@@ -5,7 +5,8 @@ use mathlib.Core.Path.{_≡_, refl, sym}
 use lib.Ieee.{nan}
 use lib.ListN.{length, drop}
 use borrow.Author.Needs.{needs}
-use Rattle.basics.specs.Lists.{all, all-join, all-joined}
+use Rattle.basics.specs.Lists.{all}
+use Rattle.basics.proofs.Walks.{all-join, all-joined}
 use Rattle.geometry.specs.Position.{coordinate}
 use Rattle.geometry.proofs.all_coordinates.Statement.{statement}
 use Rattle.geometry.proofs.all_coordinates.Tie as tie

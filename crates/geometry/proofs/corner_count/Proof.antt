@@ -1,5 +1,5 @@
 -- `geometry::corner_count` meets its contract. Assumes nothing.
-use Rattle.geometry.specs.Axes.{three}
+use Rattle.geometry.proofs.Axes.{three}
 use Rattle.geometry.proofs.corner_count.Statement.{statement}
 use Rattle.geometry.proofs.corner_count.Tie as tie
 

@@ -1,5 +1,5 @@
 -- `geometry::dot` meets its contract. Assumes nothing.
-use Rattle.geometry.specs.Axes.{three}
+use Rattle.geometry.proofs.Axes.{three}
 use Rattle.geometry.specs.Distances.{dot}
 use Rattle.geometry.proofs.dot.Statement.{statement}
 use Rattle.geometry.proofs.dot.Tie as tie

@@ -3,7 +3,7 @@ use mathlib.Core.Path.{sym}
 use lib.Ieee.{nan, ofBits}
 use lib.ListN.{List·getD-eq-default}
 use borrow.Author.Needs.{needs}
-use Rattle.basics.specs.Lists.{getD-any}
+use Rattle.basics.proofs.Lists.{getD-any}
 use Rattle.floats.specs.Rounded.{zeroF}
 use Rattle.geometry.proofs.entry.Statement.{statement}
 use Rattle.geometry.proofs.entry.Tie as tie

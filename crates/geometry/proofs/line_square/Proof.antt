@@ -1,6 +1,6 @@
 -- `geometry::line_square` meets its contract. Assumes nothing.
 use mathlib.Core.Path.{_∙_}
-use Rattle.geometry.specs.Axes.{square-is}
+use Rattle.geometry.proofs.Axes.{square-is}
 use borrow.Author.Needs.{needs}
 use Rattle.geometry.proofs.line_square.Statement.{statement}
 use Rattle.geometry.proofs.line_square.Tie as tie

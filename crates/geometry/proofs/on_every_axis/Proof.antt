@@ -1,6 +1,6 @@
 -- `geometry::on_every_axis` meets its contract. Assumes nothing.
 use mathlib.Core.Path.{sym}
-use Rattle.geometry.specs.Axes.{every-is}
+use Rattle.geometry.proofs.Axes.{every-is}
 use Rattle.geometry.proofs.on_every_axis.Statement.{statement}
 use Rattle.geometry.proofs.on_every_axis.Tie as tie
 

@@ -1,6 +1,6 @@
 -- `geometry::on_some_axis` meets its contract. Assumes nothing.
 use mathlib.Core.Path.{sym}
-use Rattle.geometry.specs.Axes.{some-is}
+use Rattle.geometry.proofs.Axes.{some-is}
 use Rattle.geometry.proofs.on_some_axis.Statement.{statement}
 use Rattle.geometry.proofs.on_some_axis.Tie as tie
 

@@ -7,11 +7,12 @@ use lib.Ieee.{Float}
 use lib.ListN.{length}
 use borrow.Author.Needs.{needs}
 use borrow.Author.Tests.{eq-eqb, ne-eqb, eqb-true, not-true, not-false}
-use Rattle.basics.specs.Bools.{and-both}
+use Rattle.basics.proofs.Bools.{and-both}
 use Rattle.basics.specs.Lists.{all}
-use Rattle.basics.specs.Refusals.{refuse, fault, through, through-answer}
+use Rattle.basics.specs.Refusals.{refuse, fault, through}
+use Rattle.basics.proofs.Refusals.{through-answer}
 use Rattle.floats.specs.Rounded.{_⊖_}
-use Rattle.geometry.specs.Axes.{coords-of}
+use Rattle.geometry.proofs.Axes.{coords-of}
 use Rattle.geometry.specs.Distances.{tooClose, pointLine, pointCylinderAnswer}
 use Rattle.geometry.specs.Position.{coords, dimension, coordinate}
 use Rattle.geometry.proofs.point_cylinder_distance.Statement.{statement}

@@ -5,9 +5,9 @@ use lib.Dec.{eqb}
 use lib.ListN.{length}
 use borrow.Author.Needs.{needs}
 use borrow.Author.Tests.{eqb-true, not-true, not-false}
-use Rattle.basics.specs.Bools.{and-both}
+use Rattle.basics.proofs.Bools.{and-both}
 use Rattle.basics.specs.Lists.{all}
-use Rattle.geometry.specs.Axes.{coords-of}
+use Rattle.geometry.proofs.Axes.{coords-of}
 use Rattle.geometry.specs.Distances.{pointLineAnswer}
 use Rattle.geometry.specs.Position.{coords, dimension, coordinate}
 use Rattle.geometry.proofs.point_line_distance.Statement.{statement}

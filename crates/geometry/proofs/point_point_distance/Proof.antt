@@ -6,7 +6,7 @@ use lib.ListN.{length}
 use borrow.Author.Needs.{needs}
 use borrow.Author.Tests.{eq-eqb, ne-eqb, not-true, not-false}
 use Rattle.basics.specs.Lists.{all}
-use Rattle.geometry.specs.Axes.{coords-of}
+use Rattle.geometry.proofs.Axes.{coords-of}
 use Rattle.geometry.specs.Distances.{pointPoint, pointPointAnswer}
 use Rattle.geometry.specs.Position.{coords, dimension, coordinate}
 use Rattle.geometry.proofs.point_point_distance.Statement.{statement}

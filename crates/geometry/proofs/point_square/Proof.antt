@@ -1,6 +1,6 @@
 -- `geometry::point_square` meets its contract. Assumes nothing.
 use mathlib.Core.Path.{_∙_}
-use Rattle.geometry.specs.Axes.{dot-less}
+use Rattle.geometry.proofs.Axes.{dot-less}
 use Rattle.geometry.specs.Distances.{pointSquare}
 use borrow.Author.Needs.{needs}
 use Rattle.geometry.proofs.point_square.Statement.{statement}

@@ -1,7 +1,7 @@
 -- `geometry::position_ok` meets its contract. Assumes nothing.
 use mathlib.Core.List.{[], _∷_}
 use borrow.Author.Needs.{needs}
-use Rattle.geometry.specs.Axes.{all-tests}
+use Rattle.geometry.proofs.Axes.{all-tests}
 use Rattle.geometry.specs.Position.{coordinate}
 use Rattle.geometry.proofs.position_ok.Statement.{statement}
 use Rattle.geometry.proofs.position_ok.Tie as tie

@@ -5,8 +5,8 @@ use borrow.Author.Needs.{needs}
 use Rattle.basics.specs.Lists.{all, zipWith}
 use Rattle.grid.specs.Divisions.{counts, division}
 use Rattle.grid.specs.Containers.{exceed, Fits}
-use Rattle.grid.specs.Bounds.{Bounds, bounds}
-use Rattle.grid.specs.InUse.{divided, located-is}
+use Rattle.grid.proofs.Bounds.{Bounds, bounds}
+use Rattle.grid.proofs.InUse.{divided, located-is}
 use Rattle.grid.proofs.Flat.{along-far, along-index}
 use Rattle.grid.proofs.calc_container_key.Statement.{statement}
 use Rattle.grid.proofs.calc_container_key.Tie as tie

@@ -1,7 +1,7 @@
 -- `grid::combined` meets its contract. Assumes nothing.
 use Prim.Native.Nat.{ℕ, _≤_, _<_}
 use native.Mathlib.Omega.{arith}
-use Rattle.grid.specs.Bounds.{bounds, two-small, three-small}
+use Rattle.grid.proofs.Bounds.{bounds, two-small, three-small}
 use Rattle.grid.proofs.Flat.{key-is}
 use Rattle.grid.proofs.combined.Statement.{statement}
 use Rattle.grid.proofs.combined.Tie as tie

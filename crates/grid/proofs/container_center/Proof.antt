@@ -4,11 +4,12 @@ use native.Mathlib.Omega.{arith}
 use mathlib.Core.List.{[], _∷_}
 use lib.Ieee.{Float}
 use borrow.Author.Needs.{needs}
-use Rattle.basics.specs.Lists.{zipWith, take-zip}
+use Rattle.basics.specs.Lists.{zipWith}
+use Rattle.basics.proofs.Lists.{take-zip}
 use Rattle.floats.specs.Rounded.{_⊕_, _⊗_, _⊘_, ofNat, pow2}
-use Rattle.geometry.specs.Axes.{padded}
+use Rattle.geometry.proofs.Axes.{padded}
 use Rattle.grid.specs.Containers.{centre}
-use Rattle.grid.specs.InUse.{Small, small, indices-are}
+use Rattle.grid.proofs.InUse.{Small, small, indices-are}
 use Rattle.grid.proofs.container_center.Statement.{statement}
 use Rattle.grid.proofs.container_center.Tie as tie
 

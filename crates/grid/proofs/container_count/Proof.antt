@@ -2,8 +2,8 @@
 use native.Mathlib.Omega.{arith}
 use native.Mathlib.Nat.{mul-one, mul-assoc}
 use Rattle.grid.specs.Containers.{containers}
-use Rattle.grid.specs.Bounds.{Bounds, two-small, three-small}
-use Rattle.grid.specs.InUse.{sized, containers-are}
+use Rattle.grid.proofs.Bounds.{Bounds, two-small, three-small}
+use Rattle.grid.proofs.InUse.{sized, containers-are}
 use Rattle.grid.proofs.container_count.Statement.{statement}
 use Rattle.grid.proofs.container_count.Tie as tie
 

@@ -1,6 +1,6 @@
 -- `grid::divisions_ok` meets its contract. Assumes nothing.
 use mathlib.Core.List.{[], _∷_}
-use Rattle.geometry.specs.Axes.{all-tests}
+use Rattle.geometry.proofs.Axes.{all-tests}
 use Rattle.grid.specs.Divisions.{division}
 use borrow.Author.Needs.{needs}
 use Rattle.grid.proofs.divisions_ok.Statement.{statement}

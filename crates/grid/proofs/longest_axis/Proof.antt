@@ -6,7 +6,7 @@ use mathlib.Core.Path.{_≡_, sym, ap, _∙_}
 use lib.ListN.{length, drop, drop-of-length-le}
 use borrow.Author.Needs.{needs}
 use Rattle.geometry.specs.Position.{coords}
-use Rattle.geometry.specs.Axes.{axis-at, coords-length, for-axes}
+use Rattle.geometry.proofs.Axes.{axis-at, coords-length, for-axes}
 use Rattle.grid.specs.Divisions.{longest, longestFrom}
 use Rattle.grid.proofs.longest_axis.Statement.{statement}
 use Rattle.grid.proofs.longest_axis.Tie as tie

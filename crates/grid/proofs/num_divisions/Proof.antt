@@ -2,9 +2,9 @@
 use mathlib.Core.List.{[], _∷_}
 use borrow.Author.Needs.{needs}
 use Rattle.geometry.specs.Distances.{less}
-use Rattle.geometry.specs.Axes.{coords-less}
+use Rattle.geometry.proofs.Axes.{coords-less}
 use Rattle.grid.specs.Divisions.{numDivisions, shares}
-use Rattle.grid.specs.Shares.{take-shares}
+use Rattle.grid.proofs.Shares.{take-shares}
 use Rattle.grid.proofs.num_divisions.Statement.{statement}
 use Rattle.grid.proofs.num_divisions.Tie as tie
 

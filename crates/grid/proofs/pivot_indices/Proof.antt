@@ -2,8 +2,8 @@
 use native.Mathlib.Nat.{mul-pos}
 use native.Mathlib.Omega.{arith}
 use Rattle.grid.specs.Containers.{pivots}
-use Rattle.grid.specs.Bounds.{Bounds, two-small}
-use Rattle.grid.specs.InUse.{sized, containers-are, pivots-are}
+use Rattle.grid.proofs.Bounds.{Bounds, two-small}
+use Rattle.grid.proofs.InUse.{sized, containers-are, pivots-are}
 use Rattle.grid.proofs.Flat.{second-index, third-index}
 use Rattle.grid.proofs.pivot_indices.Statement.{statement}
 use Rattle.grid.proofs.pivot_indices.Tie as tie

@@ -10,7 +10,7 @@ use Rattle.cell_sizes.specs.Large.{boxes}
 use Rattle.grid_cells.specs.Build.{lentOf, build, Gives}
 use Rattle.grid_cells.specs.declared.GridCells.{GridCells}
 use Rattle.grid_cells.specs.declared.Built.{Built}
-use Rattle.geometry.specs.Axes.{few-axes}
+use Rattle.geometry.proofs.Axes.{few-axes}
 use Rattle.mesh.specs.Mesh.{meshOf, cellCount, Whole}
 use Rattle.grid_cells.proofs.build_by.Statement.{statement}
 use Rattle.grid_cells.proofs.build_by.Tie as tie

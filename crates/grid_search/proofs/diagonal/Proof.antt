@@ -1,6 +1,6 @@
 -- `grid_search::diagonal` meets its contract: the two constants are the roots of 2 and 3. Assumes nothing.
 use lib.Ieee.{ofBits, ofInt}
-use Rattle.geometry.specs.Axes.{three}
+use Rattle.geometry.proofs.Axes.{three}
 use Rattle.grid_search.specs.Sheet.{diagonal}
 use Rattle.grid_search.proofs.diagonal.Statement.{statement}
 use Rattle.grid_search.proofs.diagonal.Tie as tie

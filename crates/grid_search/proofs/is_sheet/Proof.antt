@@ -3,7 +3,7 @@ use mathlib.Core.Path.{sym, _∙_}
 use borrow.Author.Needs.{needs}
 use borrow.Author.Tests.{not-true, not-false}
 use Rattle.grid_search.specs.Sheet.{sheetOk}
-use Rattle.grid_search.specs.Good.{no-axes}
+use Rattle.grid_search.proofs.Good.{no-axes}
 use Rattle.grid_search.proofs.is_sheet.Statement.{statement}
 use Rattle.grid_search.proofs.is_sheet.Tie as tie
 

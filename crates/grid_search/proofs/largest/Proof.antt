@@ -1,6 +1,6 @@
 -- `grid_search::largest` meets its contract. Assumes nothing.
 use borrow.Author.Needs.{needs}
-use Rattle.geometry.specs.Axes.{three}
+use Rattle.geometry.proofs.Axes.{three}
 use Rattle.grid_search.specs.Sheet.{largest}
 use Rattle.grid_search.proofs.largest.Statement.{statement}
 use Rattle.grid_search.proofs.largest.Tie as tie

@@ -11,9 +11,9 @@ use borrow.Author.Tests.{not-true, not-false, eq-eqb, ne-eqb, lt-ltb, le-ltb}
 use Rattle.basics.specs.Refusals.{success}
 use Rattle.floats.specs.Rounded.{zeroF}
 use Rattle.geometry.specs.Position.{coords, dimension}
-use Rattle.geometry.specs.Axes.{coords-length}
-use Rattle.grid_search.specs.Sheet.{numberOf, toleranceOf, borderOf, outOfLimits, above}
-use Rattle.grid_search.specs.Laws.{refused-3, refused-4, refused-5, refused-6, refused-7, refused-8, refused-9, refused-10, accepted}
+use Rattle.geometry.proofs.Axes.{coords-length}
+use Rattle.grid_search.specs.Sheet.{numberOf, toleranceOf, borderOf, outOfLimits, inOrder}
+use Rattle.grid_search.proofs.Laws.{refused-3, refused-4, refused-5, refused-6, refused-7, refused-8, refused-9, refused-10, all-passed}
 use Rattle.grid_search.proofs.Parts.{both-lengths}
 use Rattle.grid_search.proofs.sheet_from.Statement.{statement}
 use Rattle.grid_search.proofs.sheet_from.Tie as tie
@@ -39,7 +39,7 @@ h5 c = rw (← c .before .before .before .before .before .before .number-in-forc
 h6 : (c : tie.Else4) → let a = c .before .before .before .before .before .before .before .before .args in ltb 1024 (numberOf (a .number)) ≡ false
 h6 c = rw (← c .before .before .before .before .before .before .before .number-in-force .ensures) (le-ltb 1024 (c .before .before .before .before .before .before .before .number-in-force .result) (c .if4 .left))
 
-h7 : (c : tie.Else5) → let a = c .before .before .before .before .before .before .before .before .before .before .args in above (coords (a .ndim) (a .low)) (coords (a .ndim) (a .high)) ≡ true
+h7 : (c : tie.Else5) → let a = c .before .before .before .before .before .before .before .before .before .before .args in inOrder (coords (a .ndim) (a .low)) (coords (a .ndim) (a .high)) ≡ true
 h7 c = sym (c .before .is-above .ensures) ∙ not-false _ (c .if5 .left)
 
 h8 : (c : tie.Else6) → let a = c .before .before .before .before .before .before .before .before .before .before .before .args in le (toleranceOf (a .tolerance)) zeroF ≡ false
@@ -141,7 +141,7 @@ returns-9 c =
     let s = c .before .before .before .before .before .before .before .before .before .before .before .before .before .before .before in
     let a = s .args in
     ap success (c .before .before .built .ensures)
-    ∙ accepted (coords (a .ndim) (a .low)) (coords (a .ndim) (a .high)) (a .number) (a .tolerance) (a .border-tol) (axes s) (same-axes s) (h3 (c .before .before .before .before .before .before .before .before .before .before)) (h4 (c .before .before .before .before .before .before .before .before .before)) (h5 (c .before .before .before .before .before .before .before .before)) (h6 (c .before .before .before .before .before .before .before)) (h7 (c .before .before .before .before .before)) (h8 (c .before .before .before .before)) (h9 (c .before .before .before))
+    ∙ all-passed (coords (a .ndim) (a .low)) (coords (a .ndim) (a .high)) (a .number) (a .tolerance) (a .border-tol) (axes s) (same-axes s) (h3 (c .before .before .before .before .before .before .before .before .before .before)) (h4 (c .before .before .before .before .before .before .before .before .before)) (h5 (c .before .before .before .before .before .before .before .before)) (h6 (c .before .before .before .before .before .before .before)) (h7 (c .before .before .before .before .before)) (h8 (c .before .before .before .before)) (h9 (c .before .before .before))
     (rw (← c .before .before .before .before .before .before .before .before .before .before .before .before .before .tolerance-in-force .ensures, ← c .before .before .built .ensures) (c .if8 .left))
 
 pub sheet-from-spec : {M : Type 1} → statement M

@@ -2,10 +2,11 @@
 use Prim.Native.Nat.{ℕ}
 use mathlib.Core.List.{[], _∷_}
 use lib.Ieee.{Float}
-use Rattle.basics.specs.Lists.{zipWith, take-zip}
+use Rattle.basics.specs.Lists.{zipWith}
+use Rattle.basics.proofs.Lists.{take-zip}
 use Rattle.floats.specs.Rounded.{_⊖_, _⊘_, ofNat}
-use Rattle.grid.specs.Bounds.{Bounds}
-use Rattle.grid.specs.InUse.{sized, counts-are}
+use Rattle.grid.proofs.Bounds.{Bounds}
+use Rattle.grid.proofs.InUse.{sized, counts-are}
 use Rattle.grid_search.specs.Sheet.{sideOf}
 use Rattle.grid_search.proofs.side.Statement.{statement}
 use Rattle.grid_search.proofs.side.Tie as tie

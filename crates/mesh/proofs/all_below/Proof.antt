@@ -5,7 +5,8 @@ use lib.ListN.{length, drop}
 use lib.Dec.{ltb}
 use borrow.Author.Tests.{lt-ltb, le-ltb}
 use borrow.Author.Needs.{needs}
-use Rattle.basics.specs.Lists.{all, all-stop, all-next, all-end}
+use Rattle.basics.specs.Lists.{all}
+use Rattle.basics.proofs.Walks.{all-stop, all-next, all-end}
 use Rattle.mesh.proofs.all_below.Statement.{statement}
 use Rattle.mesh.proofs.all_below.Tie as tie
 

@@ -4,7 +4,7 @@ use native.Mathlib.Omega.{arith}
 use mathlib.Core.Path.{_≡_}
 use lib.ListN.{drop}
 use borrow.Author.Needs.{needs}
-use Rattle.geometry.specs.Axes.{few-axes}
+use Rattle.geometry.proofs.Axes.{few-axes}
 use Rattle.mesh.proofs.Boxes.{low-start, high-start, fold-next, fold-end, box-is}
 use Rattle.mesh.specs.Mesh.{meshOf, cornerPoints, foldPoints, least, greatest}
 use Rattle.geometry.specs.Position.{coords as axes}

@@ -2,10 +2,9 @@
 use native.Mathlib.Omega.{arith}
 use mathlib.Core.Path.{_∙_}
 use borrow.Author.Needs.{needs}
-use Rattle.geometry.specs.Axes.{few-axes}
+use Rattle.geometry.proofs.Axes.{few-axes, three}
 use Rattle.mesh.proofs.Boxes.{triangle-is, tetrahedron-is}
 use Rattle.mesh.specs.Mesh.{meshOf, cornerPoints}
-use Rattle.geometry.specs.Axes.{three}
 use Rattle.mesh.proofs.cell_coords.Statement.{statement}
 use Rattle.mesh.proofs.cell_coords.Tie as tie
 

@@ -6,7 +6,7 @@ use lib.ListN.{getD}
 use borrow.Author.Needs.{needs}
 use Rattle.mesh.proofs.Whole.{corner-in, names-point, point-in, length-point, corner-at}
 use Rattle.mesh.specs.Mesh.{meshOf, pointAt}
-use Rattle.geometry.specs.Axes.{few-axes, coords-of}
+use Rattle.geometry.proofs.Axes.{few-axes, coords-of}
 use Rattle.mesh.proofs.corner.Statement.{statement}
 use Rattle.mesh.proofs.corner.Tie as tie
 

@@ -1,6 +1,6 @@
 -- `mesh::in_cell` meets its contract. Assumes nothing.
 use borrow.Author.Needs.{needs}
-use Rattle.geometry.specs.Axes.{three}
+use Rattle.geometry.proofs.Axes.{three}
 use Rattle.mesh.proofs.in_cell.Statement.{statement}
 use Rattle.mesh.proofs.in_cell.Tie as tie
 

@@ -2,7 +2,7 @@
 use native.Mathlib.Omega.{arith}
 use borrow.Author.Tests.{lt-ltb, le-ltb}
 use borrow.Author.Needs.{needs}
-use Rattle.geometry.specs.Axes.{few-axes}
+use Rattle.geometry.proofs.Axes.{few-axes}
 use Rattle.mesh.specs.Mesh.{meshTooLong}
 use Rattle.mesh.proofs.is_too_long.Statement.{statement}
 use Rattle.mesh.proofs.is_too_long.Tie as tie

@@ -5,7 +5,8 @@ use borrow.Author.Needs.{needs}
 use Rattle.geometry.specs.Position.{coords}
 use Rattle.geometry.specs.declared.Position.{Position}
 use Rattle.floats.specs.Tests.{maxOf}
-use Rattle.basics.specs.Lists.{take-zip, zipWith}
+use Rattle.basics.specs.Lists.{zipWith}
+use Rattle.basics.proofs.Lists.{take-zip}
 use Rattle.mesh.proofs.upper.Statement.{statement}
 use Rattle.mesh.proofs.upper.Tie as tie
 

@@ -3,7 +3,7 @@
 use native.Mathlib.Omega.{arith}
 use mathlib.Core.Path.{_≡_, sym}
 use lib.ListN.{length}
-use Rattle.rows.specs.Library.{library}
+use Rattle.table.specs.Library.{library}
 use Rattle.outcome.proofs.Texts.{shown-length, shown-refused, text-fits}
 use borrow.Author.Needs.{needs}
 use Rattle.outcome.proofs.put_library.Statement.{statement}

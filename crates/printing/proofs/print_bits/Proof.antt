@@ -2,7 +2,7 @@
 use mathlib.Core.Path.{sym, subst}
 use mathlib.Core.Bool.{Bool, not}
 use lib.Dec.{T}
-use Rattle.floats.specs.Order.{eq-left}
+use Rattle.floats.proofs.Order.{eq-left}
 use borrow.Author.Needs.{needs}
 use Rattle.printing.proofs.print_bits.Statement.{statement}
 use Rattle.printing.proofs.print_bits.Tie as tie

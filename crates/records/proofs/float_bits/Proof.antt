@@ -4,7 +4,7 @@ use mathlib.Core.Path.{sym, ap, subst}
 use mathlib.Core.Bool.{Bool, not}
 use lib.Dec.{T}
 use lib.Ieee.{Float, binary64, toBits}
-use Rattle.floats.specs.Order.{eq-left}
+use Rattle.floats.proofs.Order.{eq-left}
 use Rattle.floats.proofs.Choices.{differs}
 use Rattle.records.proofs.Laws.{is-nan}
 use borrow.Author.Needs.{needs}

@@ -7,7 +7,7 @@ use mathlib.Core.Bool.{Bool, _&&_}
 use lib.ListN.{take, drop}
 use lib.Ieee.{nan, ofBits}
 use Rattle.basics.specs.Lists.{all}
-use Rattle.basics.specs.Laws.{all-turn, all-end}
+use Rattle.basics.proofs.Walks.{all-turn, all-turned}
 use Rattle.rows.specs.Posts.{plusZero}
 use native.Mathlib.Omega.{arith}
 use Rattle.rows.proofs.are_plus_zeros.Statement.{statement}
@@ -18,24 +18,6 @@ Inv-loop s n ok₀ i₀ ok i = (i ≤ n) × (all plusZero (take n s) ≡ (ok && 
 
 abbrev μ-loop : tie.MeasureT-loop
 μ-loop s n ok₀ i₀ ok i = n - i
-
-loop-holds : tie.Need-loop-holds Inv-loop μ-loop
-loop-holds c = search needs
-
-mul-same-bits : tie.Need-mul-same-bits Inv-loop μ-loop
-mul-same-bits c = search needs
-
-shared-slice-read-same-bits : tie.Need-shared-slice-read-same-bits Inv-loop μ-loop
-shared-slice-read-same-bits c = search needs
-
-same-bits-requires : tie.Need-same-bits-requires Inv-loop μ-loop
-same-bits-requires c κs = search needs
-
-add-i : tie.Need-add-i Inv-loop μ-loop
-add-i c = search needs
-
-loop-less : tie.Need-loop-less Inv-loop μ-loop
-loop-less c = search needs
 
 loop-again : tie.Need-loop-again Inv-loop μ-loop
 unfolding ofBits
@@ -49,7 +31,7 @@ returns : tie.Need-returns Inv-loop μ-loop
 returns c =
     let l = c .before in
     let a = l .before .before in
-    sym (l .loop .inv .1 ∙ all-end plusZero (a .args .n) (a .args .s .now) (l .loop .i) (l .loop .ok) (omega arith) (omega arith))
+    sym (l .loop .inv .1 ∙ all-turned plusZero (a .args .n) (a .args .s .now) (l .loop .i) (l .loop .ok) (omega arith) (omega arith))
 
 pub are-plus-zeros-spec : {M : Type 1} → statement M
 are-plus-zeros-spec =
@@ -57,11 +39,11 @@ are-plus-zeros-spec =
     (tie.spec
     Inv-loop
     μ-loop
-    loop-holds
-    mul-same-bits
-    shared-slice-read-same-bits
-    same-bits-requires
-    add-i
-    loop-less
+    (λ c. search needs)
+    (λ c. search needs)
+    (λ c. search needs)
+    (λ c κs. search needs)
+    (λ c. search needs)
+    (λ c. search needs)
     loop-again
     returns)

@@ -2,7 +2,7 @@
 use native.Mathlib.Omega.{arith}
 use mathlib.Core.Path.{sym}
 use lib.ListN.{length-set}
-use Rattle.basics.specs.Stores.{sets-whole}
+use Rattle.basics.proofs.Stores.{sets-whole}
 use Rattle.capi.specs.Cells.{cellsFloats}
 use Rattle.capi.proofs.cells.write_floats.Statement.{statement}
 use Rattle.capi.proofs.cells.write_floats.Tie as tie

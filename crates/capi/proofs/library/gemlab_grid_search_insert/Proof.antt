@@ -1,6 +1,6 @@
 -- `gemlab_grid_search_insert` meets its contract: a law for each answer.
 -- Assumes nothing.
-use Rattle.rows.specs.Library.{library}
+use Rattle.table.specs.Library.{library}
 use Rattle.capi.specs.Sheets.{sheetOf}
 use Rattle.capi.proofs.Libraries.{told-stored, told-refused}
 use borrow.Author.Needs.{needs}

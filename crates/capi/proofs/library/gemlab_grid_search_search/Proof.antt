@@ -1,7 +1,7 @@
 -- `gemlab_grid_search_search` meets its contract: a law for each answer.
 -- Assumes nothing.
 use mathlib.Core.Path.{sym, ap, _∙_}
-use Rattle.rows.specs.Library.{library}
+use Rattle.table.specs.Library.{library}
 use Rattle.grid_search.specs.declared.GridSearch.{GridSearch}
 use Rattle.search.specs.Search.{searchAnswer, found}
 use Rattle.capi.proofs.Libraries.{told-id, told-nothing, told-away}

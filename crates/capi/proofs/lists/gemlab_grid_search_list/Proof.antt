@@ -5,7 +5,7 @@ use Rattle.capi.proofs.Listings.{told-count, told-refused}
 use Rattle.listing.specs.Listing.{listing}
 use Rattle.listing.specs.Place.{askedOf}
 use Rattle.listing.specs.declared.Filter.{Filter}
-use Rattle.rows.specs.Library.{library}
+use Rattle.table.specs.Library.{library}
 use Rattle.grid_search.specs.declared.GridSearch.{GridSearch}
 use Rattle.capi.proofs.lists.gemlab_grid_search_list.Statement.{statement}
 use Rattle.capi.proofs.lists.gemlab_grid_search_list.Tie as tie

@@ -3,10 +3,10 @@ use mathlib.Core.Path.{_≡_}
 use mathlib.Core.Bool.{true}
 use lib.ListN.{length}
 use borrow.Author.Tests.{eq-eqb, ne-eqb}
-use Rattle.basics.specs.Bools.{both}
+use Rattle.basics.proofs.Bools.{both}
 use Rattle.grid_search.specs.Sheet.{made, newSheet}
 use Rattle.capi.specs.Sheets.{givenNumber, givenFloat, sheetLengths}
-use Rattle.capi.specs.SheetLaws.{told-13, told-refused, told-sheet}
+use Rattle.capi.proofs.SheetLaws.{told-13, told-refused, told-sheet}
 use borrow.Author.Needs.{needs}
 use Rattle.capi.proofs.sheet.gemlab_grid_search_new.Statement.{statement}
 use Rattle.capi.proofs.sheet.gemlab_grid_search_new.Tie as tie

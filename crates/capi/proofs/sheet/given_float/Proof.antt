@@ -1,5 +1,5 @@
 -- `capi::sheet::given_float` meets its contract. Assumes nothing.
-use Rattle.capi.specs.SheetLaws.{given-is-float}
+use Rattle.capi.proofs.SheetLaws.{given-is-float}
 use Rattle.capi.proofs.sheet.given_float.Statement.{statement}
 use Rattle.capi.proofs.sheet.given_float.Tie as tie
 

@@ -1,5 +1,5 @@
 -- `capi::sheet::given_number` meets its contract. Assumes nothing.
-use Rattle.capi.specs.SheetLaws.{given-is-number}
+use Rattle.capi.proofs.SheetLaws.{given-is-number}
 use Rattle.capi.proofs.sheet.given_number.Statement.{statement}
 use Rattle.capi.proofs.sheet.given_number.Tie as tie
 

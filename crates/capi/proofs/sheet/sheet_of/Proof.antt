@@ -1,7 +1,7 @@
 -- `capi::sheet::sheet_of` meets its contract. Assumes nothing.
 use mathlib.Core.Path.{sym, _∙_}
 use Rattle.capi.specs.Sheets.{sheetOf}
-use Rattle.capi.specs.SheetLaws.{lengths-of}
+use Rattle.capi.proofs.SheetLaws.{lengths-of}
 use borrow.Author.Needs.{needs}
 use Rattle.capi.proofs.sheet.sheet_of.Statement.{statement}
 use Rattle.capi.proofs.sheet.sheet_of.Tie as tie

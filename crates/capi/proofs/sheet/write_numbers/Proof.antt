@@ -1,6 +1,6 @@
 -- `capi::sheet::write_numbers` meets its contract. Assumes nothing.
 use mathlib.Core.Path.{sym}
-use Rattle.basics.specs.Stores.{sets-whole}
+use Rattle.basics.proofs.Stores.{sets-whole}
 use Rattle.capi.specs.Sheets.{numbersOf}
 use native.Mathlib.Omega.{arith}
 use lib.ListN.{length-set}

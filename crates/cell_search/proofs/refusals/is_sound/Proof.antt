@@ -2,7 +2,7 @@
 use Rattle.cell_search.proofs.Refused.{good-divisions, unsound-index, unsound-lists, unsound-used, unsound-large, sound-lists}
 use Rattle.cell_search.specs.Search.{cellRows, largeCells}
 use Rattle.grid_cells.specs.Build.{lentOf}
-use Rattle.geometry.specs.Axes.{few-axes}
+use Rattle.geometry.proofs.Axes.{few-axes}
 use Rattle.mesh.specs.Mesh.{meshOf, cellCount}
 use borrow.Author.Needs.{needs}
 use borrow.Author.Tests.{not-true, not-false}

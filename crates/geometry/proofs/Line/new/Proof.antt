@@ -1,6 +1,6 @@
 -- `geometry::Line::new` meets its contract. Assumes nothing.
 use borrow.Author.Needs.{needs}
-use Rattle.geometry.specs.Axes.{line-is}
+use Rattle.geometry.proofs.Axes.{line-is}
 use Rattle.geometry.proofs.Line.new.Statement.{statement}
 use Rattle.geometry.proofs.Line.new.Tie as tie
 

@@ -1,6 +1,6 @@
 -- `geometry::Position::axis` meets its contract. Assumes nothing.
 use borrow.Author.Needs.{needs}
-use Rattle.geometry.specs.Axes.{axis-last}
+use Rattle.geometry.proofs.Axes.{axis-last}
 use Rattle.geometry.proofs.Position.axis.Statement.{statement}
 use Rattle.geometry.proofs.Position.axis.Tie as tie
 

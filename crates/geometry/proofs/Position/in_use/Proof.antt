@@ -1,6 +1,6 @@
 -- `geometry::Position::in_use` meets its contract. Assumes nothing.
 use lib.Ieee.{ofBits}
-use Rattle.geometry.specs.Axes.{three}
+use Rattle.geometry.proofs.Axes.{three}
 use Rattle.geometry.proofs.Position.in_use.Statement.{statement}
 use Rattle.geometry.proofs.Position.in_use.Tie as tie
 

@@ -1,5 +1,5 @@
 -- `grid::Divisions::in_use` meets its contract. Assumes nothing.
-use Rattle.geometry.specs.Axes.{three}
+use Rattle.geometry.proofs.Axes.{three}
 use Rattle.grid.proofs.Divisions.in_use.Statement.{statement}
 use Rattle.grid.proofs.Divisions.in_use.Tie as tie
 

@@ -2,7 +2,7 @@
 use mathlib.Core.List.{[], _∷_}
 use lib.Ieee.{Float}
 use borrow.Author.Needs.{needs}
-use Rattle.basics.specs.Lists.{take-zip}
+use Rattle.basics.proofs.Lists.{take-zip}
 use Rattle.floats.specs.Rounded.{_⊖_, _⊘_, truncate}
 use Rattle.floats.specs.Ceil.{ceilOf}
 use Rattle.grid_cells.specs.Build.{cellDivisions}

@@ -3,7 +3,7 @@ use Prim.Native.Nat.{ℕ}
 use mathlib.Core.List.{[], _∷_}
 use lib.Dec.{ltb}
 use borrow.Author.Needs.{needs}
-use Rattle.geometry.specs.Axes.{any-tests}
+use Rattle.geometry.proofs.Axes.{any-tests}
 use Rattle.grid_cells.proofs.frame.has_many.Statement.{statement}
 use Rattle.grid_cells.proofs.frame.has_many.Tie as tie
 

@@ -5,8 +5,8 @@ use lib.ListN.{length}
 use borrow.Author.Needs.{needs}
 use borrow.Author.Tests.{not-true, not-false, ne-eqb}
 use Rattle.geometry.specs.Position.{dimension}
-use Rattle.geometry.specs.Axes.{coords-of}
-use Rattle.grid_search.specs.Laws.{refused-1, refused-2}
+use Rattle.geometry.proofs.Axes.{coords-of}
+use Rattle.grid_search.proofs.Laws.{refused-1, refused-2}
 use Rattle.grid_search.proofs.GridSearch.new.Statement.{statement}
 use Rattle.grid_search.proofs.GridSearch.new.Tie as tie
 

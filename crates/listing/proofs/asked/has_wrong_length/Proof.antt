@@ -3,7 +3,7 @@ use mathlib.Core.Bool.{false}
 use mathlib.Core.Path.{_≡_, refl}
 use lib.Dec.{leb}
 use borrow.Author.Tests.{leb-true, leb-false}
-use Rattle.basics.specs.Bools.{by-test}
+use Rattle.basics.proofs.Bools.{by-test}
 use Rattle.listing.proofs.Places.{is-line, is-circle, is-cylinder, is-unknown, of-planes}
 use Rattle.listing.specs.Place.{Asked, wrongLength}
 use Rattle.listing.proofs.asked.has_wrong_length.Statement.{statement}

@@ -4,7 +4,7 @@ use lib.Dec.{T}
 use mathlib.Core.Bool.{true}
 use lib.Ieee.{Float, binary64, fits, le, ofBits}
 use Rattle.floats.proofs.Cases.{made-nan}
-use Rattle.basics.specs.Bools.{and-both}
+use Rattle.basics.proofs.Bools.{and-both}
 use Rattle.listing.proofs.Windows.{high-tells, no-nan-above}
 use borrow.Author.Needs.{needs}
 use Rattle.listing.proofs.near.high_of.Statement.{statement}

@@ -5,7 +5,7 @@ use mathlib.Core.Bool.{true}
 use lib.Ieee.{Float, binary64, fits, le, ofBits}
 use Rattle.floats.proofs.Cases.{made-nan}
 use borrow.Author.Tests.{not-true}
-use Rattle.basics.specs.Bools.{and-both}
+use Rattle.basics.proofs.Bools.{and-both}
 use Rattle.listing.proofs.Windows.{over-tells, no-nan}
 use borrow.Author.Needs.{needs}
 use Rattle.listing.proofs.near.over_of.Statement.{statement}

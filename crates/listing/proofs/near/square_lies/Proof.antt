@@ -2,7 +2,7 @@
 use mathlib.Core.Path.{_≡_, sym, ap, subst}
 use lib.Dec.{T}
 use lib.Ieee.{binary64, fits, ofBits}
-use Rattle.basics.specs.Bools.{and-both}
+use Rattle.basics.proofs.Bools.{and-both}
 use Rattle.listing.specs.Window.{told, lies}
 use Rattle.listing.proofs.Windows.{inside, out-below, out-above}
 use borrow.Author.Needs.{needs}

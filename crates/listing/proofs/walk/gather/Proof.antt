@@ -5,7 +5,7 @@ use mathlib.Core.Path.{_≡_, refl, sym, _∙_}
 use lib.ListN.{length, length-set}
 use borrow.Author.Needs.{needs}
 use borrow.Author.Tests.{not-true, not-false}
-use Rattle.table.specs.Rows.{rowAt}
+use Rattle.table.specs.Library.{rowAt}
 use Rattle.listing.specs.Place.{asked}
 use Rattle.listing.specs.Posts.{Walked}
 use Rattle.listing.proofs.Walks.{row-far, walked-passed, walked-next, walked-back, last-place}

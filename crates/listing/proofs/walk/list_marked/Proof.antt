@@ -15,7 +15,7 @@ returns : tie.Need-returns
 returns c = out-short (c .before .before .before .before .before .before .before .before .args .ids .now) _ _ _ (omega (arith, c .before .before .before .select-by .ensures .upto, c .before .before .before .select-by .kept .0, c .before .before .before .before .before .before .before .before .pre .0)) (c .before .before .before .select-by .ensures .by-key) (c .before .before .before .before .before .before .before .before .args .list .now) (c .if1 .taken)
 
 write-ids-requires : tie.Need-write-ids-requires
-write-ids-requires c κs = ((omega (arith, c .before .before .before .before .before .select-by .ensures .upto, c .before .before .before .before .before .select-by .kept .0, c .before .before .before .before .before .before .before .before .before .before .pre .0)), (c .before .before .if1 .left, c .before .before .before .before .before .select-by .ensures .below))
+write-ids-requires c κs = ((omega (arith, c .before .before .before .before .before .select-by .ensures .upto, c .before .before .before .before .before .select-by .kept .0, c .before .before .before .before .before .before .before .before .before .before .pre .0)), (c .before .before .if1 .left, c .before .before .before .before .before .select-by .ensures .indices))
 
 same-length-2 : tie.Need-same-length-2
 same-length-2 c = search needs

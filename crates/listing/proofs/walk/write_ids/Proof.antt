@@ -6,13 +6,13 @@ use mathlib.Core.Path.{_≡_, refl, _∙_, ap, ap₂}
 use lib.ListN.{length, take, set, length-set}
 use borrow.Author.Needs.{needs}
 use Rattle.listing.proofs.Walks.{written-next}
-use Rattle.sorting.specs.Posts.{within}
+use Rattle.sorting.specs.Posts.{markId}
 use Rattle.basics.specs.Lists.{over}
 use Rattle.listing.proofs.walk.write_ids.Statement.{statement}
 use Rattle.listing.proofs.walk.write_ids.Tie as tie
 
 abbrev Inv-loop : tie.InvT-loop
-Inv-loop marks n ids list₀ j₀ list j = (j ≤ n) × ((list ≡ over (map (within ids) (take j marks)) list₀) × (length list ≡ length list₀))
+Inv-loop marks n ids list₀ j₀ list j = (j ≤ n) × ((list ≡ over (map (markId ids) (take j marks)) list₀) × (length list ≡ length list₀))
 
 abbrev μ-loop : tie.MeasureT-loop
 μ-loop marks n ids list₀ j₀ list j = n - j
@@ -58,7 +58,7 @@ same-length c = search needs
 returns : tie.Need-returns Inv-loop μ-loop
 returns c =
     let e : c .before .loop .j ≡ c .before .before .before .before .before .args .n = omega arith in
-    c .before .loop .inv .1 .0 ∙ ap (λ (k : ℕ). over (map (within (c .before .before .before .before .before .args .ids .now)) (take k (c .before .before .before .before .before .args .marks .now))) (c .before .before .before .before .before .args .list .now)) e
+    c .before .loop .inv .1 .0 ∙ ap (λ (k : ℕ). over (map (markId (c .before .before .before .before .before .args .ids .now)) (take k (c .before .before .before .before .before .args .marks .now))) (c .before .before .before .before .before .args .list .now)) e
 
 pub write-ids-spec : {M : Type 1} → statement M
 write-ids-spec =

@@ -1,6 +1,6 @@
 -- `mesh::BoundingBox::largest_length` meets its contract. Assumes nothing.
 use borrow.Author.Needs.{needs}
-use Rattle.geometry.specs.Axes.{coords-less}
+use Rattle.geometry.proofs.Axes.{coords-less}
 use Rattle.mesh.specs.Mesh.{longestSide}
 use Rattle.mesh.proofs.BoundingBox.largest_length.Statement.{statement}
 use Rattle.mesh.proofs.BoundingBox.largest_length.Tie as tie

@@ -1,7 +1,7 @@
 -- `probe::containers::has_container` meets its contract. Assumes nothing.
 use mathlib.Core.Path.{sym, _∙_}
 use borrow.Author.Tests.{not-true, not-false}
-use Rattle.probe.specs.Containers.{grid-parts}
+use Rattle.probe.proofs.Grids.{grid-parts}
 use borrow.Author.Needs.{needs}
 use Rattle.probe.proofs.containers.has_container.Statement.{statement}
 use Rattle.probe.proofs.containers.has_container.Tie as tie

@@ -1,11 +1,12 @@
 use mathlib.Core.Path.{sym, _∙_}
 use lib.Dec.{ltb}
 use borrow.Author.Tests.{ltb-true}
-use Rattle.basics.specs.Bools.{and-both}
+use Rattle.basics.proofs.Bools.{and-both}
 use Rattle.grid.specs.declared.Divisions.{Divisions}
 use Rattle.grid.specs.Divisions.{counts}
 use Rattle.grid.specs.Containers.{containers}
-use Rattle.probe.specs.Containers.{isGrid, centreIn, grid-parts}
+use Rattle.probe.specs.Containers.{isGrid, centreProbed}
+use Rattle.probe.proofs.Grids.{grid-parts}
 use borrow.Author.Needs.{needs}
 use Rattle.probe.proofs.containers.probe_container_center.Statement.{statement}
 use Rattle.probe.proofs.containers.probe_container_center.Tie as tie
@@ -26,11 +27,11 @@ container-center-requires c κs = let a = c .before .before .before .before .arg
     (g .0, (g .1, ltb-true (a .key) (containers (counts (a .ndim) d)) (h .1)))
 
 returns : tie.Need-returns
-unfolding centreIn
+unfolding centreProbed
 returns c = rw (sym (c .before .before .before .has-container .ensures) ∙ c .before .before .if1 .taken) (rw (c .before .new .ensures) at (c .container-center .ensures))
 
 returns-2 : tie.Need-returns-2
-unfolding centreIn
+unfolding centreProbed
 returns-2 c = rw (sym (c .before .has-container .ensures) ∙ c .if1 .left)
 
 pub probe-container-center-spec : {M : Type 1} → statement M

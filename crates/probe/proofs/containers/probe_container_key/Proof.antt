@@ -1,7 +1,8 @@
 -- `probe::containers::probe_container_key` meets its contract. Assumes nothing.
 use mathlib.Core.Path.{sym, ap, _∙_}
 use borrow.Author.Tests.{not-true, not-false}
-use Rattle.probe.specs.Containers.{keyIn, keyNumber, grid-parts}
+use Rattle.probe.specs.Containers.{keyProbed, keyNumber}
+use Rattle.probe.proofs.Grids.{grid-parts}
 use borrow.Author.Needs.{needs}
 use Rattle.probe.proofs.containers.probe_container_key.Statement.{statement}
 use Rattle.probe.proofs.containers.probe_container_key.Tie as tie
@@ -10,7 +11,7 @@ is-grid-requires : tie.Need-is-grid-requires
 is-grid-requires c κs = search needs
 
 returns : tie.Need-returns
-unfolding keyIn
+unfolding keyProbed
 returns c = rw (sym (c .before .is-grid .ensures) ∙ not-true _ (c .if1 .taken))
 
 new-requires : tie.Need-new-requires
@@ -26,7 +27,7 @@ key-number-requires : tie.Need-key-number-requires
 key-number-requires c κs = search needs
 
 returns-2 : tie.Need-returns-2
-unfolding keyIn
+unfolding keyProbed
 returns-2 c = rw (sym (c .before .before .before .before .before .is-grid .ensures) ∙ not-false _ (c .before .before .before .before .if1 .left)) (c .key-number .ensures ∙ ap keyNumber (rw (c .before .before .before .new .ensures, c .before .before .new2 .ensures) at (c .before .calc-container-key .ensures)))
 
 pub probe-container-key-spec : {M : Type 1} → statement M

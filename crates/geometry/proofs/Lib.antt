@@ -1,0 +1,2 @@
+-- Laws of positions, over any number of axes.
+pub mod Axes
