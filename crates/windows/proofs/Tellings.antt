@@ -1,13 +1,12 @@
--- What a square tells of all above or below it: the distance that a number tells keeps the order.
+-- What a square tells of all above or below it: the distance that it tells keeps the order.
 -- Assumes nothing.
 use Prim.Native.Nat.{ℕ}
 use mathlib.Core.Path.{_≡_, refl, sym, ap, _∙_, subst}
 use mathlib.Core.Logic.{_⊎_, inl, inr}
-use mathlib.Core.Bool.{Bool, true, false, not, _&&_, and-false}
-use lib.IntN.{ℤ}
+use mathlib.Core.Bool.{true, false, and-false}
 use lib.Ieee.{Float, nan, inf, fin, binary64, neg, lt, le, eq, isNan}
-use borrow.Author.Tests.{not-true, not-false}
-use Rattle.basics.proofs.Bools.{by-test, clash, and-both}
+use borrow.Author.Tests.{not-true}
+use Rattle.basics.proofs.Bools.{by-test, clash}
 use Rattle.floats.specs.Rounded.{_⊖_, zeroF}
 use Rattle.floats.specs.Sqrt.{sqrtOf}
 use Rattle.floats.specs.Tests.{absOf, finite, within, Binary64}
@@ -15,10 +14,10 @@ use Rattle.floats.proofs.Choice.{abs-abs, within-ends}
 use Rattle.floats.proofs.Order.{le-left, le-right, le-join, lt-le, lt-is-not-le}
 use Rattle.floats.proofs.Roots.{is-nan, zero-number, no-minus-infinity, zero-least, sqrt-number, sqrt-from-zero}
 use Rattle.floats.proofs.Laws.{root-monotone, root-sign}
-use Rattle.listing.specs.declared.Place.{Place}
-use Rattle.listing.specs.declared.Place.the-variants as place
-use Rattle.listing.specs.Window.{told, steady, lies}
-use Rattle.listing.proofs.Less.{Plus, less-mono}
+use Rattle.windows.specs.declared.Distance.{Distance}
+use Rattle.windows.specs.declared.Distance.the-variants.{Root, RootLess}
+use Rattle.windows.specs.Window.{toldBy, steady, lies}
+use Rattle.windows.proofs.Less.{Plus, less-mono}
 
 -- ---- a square above zero
 
@@ -52,14 +51,10 @@ module _ (s t : Float) (S : Binary64 s) (U : Binary64 t) (z : lt zeroF s ≡ tru
   less-roots : (r : Float) → finite r ≡ true → le (sqrtOf s ⊖ r) (sqrtOf t ⊖ r) ≡ true
   less-roots r f = less-mono (sqrtOf s) (sqrtOf t) r (root-plus s from-zero (above s z)) (root-plus t (le-join zeroF s t from-zero h) far-above) f roots
 
-  pub told-mono : (p : Place) → steady p ≡ true → le (told p s) (told p t) ≡ true
-  unfolding told steady
-  told-mono (place.Line a b) e = roots
-  told-mono (place.Circle a r) e = less-roots r e
-  told-mono (place.Cylinder a b r) e = less-roots r e
-  told-mono (place.PlaneXY v) e = clash e refl
-  told-mono (place.PlaneYZ v) e = clash e refl
-  told-mono (place.PlaneXZ v) e = clash e refl
+  pub told-mono : (d : Distance) → steady d ≡ true → le (toldBy d s) (toldBy d t) ≡ true
+  unfolding toldBy steady
+  told-mono Root e = roots
+  told-mono (RootLess r) e = less-roots r e
 
 -- ---- the four squares of a window
 
@@ -69,21 +64,18 @@ no-nan s h = clash is-nan (le-left nan s h)
 pub no-nan-above : {X : Type 0} (s : Float) → le s nan ≡ true → X
 no-nan-above s h = clash is-nan (le-right s nan h)
 
-module _ (p : Place) (b c : Float) (C : Binary64 c) (e : steady p ≡ true) (z : lt zeroF c ≡ true) where
-  above-c : (s : Float) → le c s ≡ true → lt zeroF s ≡ true
-  above-c s h = lt-is-not-le zeroF s zero-number (le-right c s h) ∙ ap not (by-test (le s zeroF) (λ g. clash (le-join c s zeroF h g) (above c z)) (λ g. g))
+module _ (d : Distance) (b c : Float) (C : Binary64 c) (e : steady d ≡ true) (z : lt zeroF c ≡ true) where
+  pub low-tells : le b (toldBy d c) ≡ true → (s : Float) → Binary64 s → le c s ≡ true → le b (toldBy d s) ≡ true
+  low-tells k s S h = le-join b (toldBy d c) (toldBy d s) k (told-mono c s C S z h d e)
 
-  pub low-tells : le b (told p c) ≡ true → (s : Float) → Binary64 s → le c s ≡ true → le b (told p s) ≡ true
-  low-tells k s S h = le-join b (told p c) (told p s) k (told-mono c s C S z h p e)
+  pub over-tells : le (toldBy d c) b ≡ false → (s : Float) → Binary64 s → le c s ≡ true → le (toldBy d s) b ≡ false
+  over-tells k s S h = by-test (le (toldBy d s) b) (λ g. clash (le-join (toldBy d c) (toldBy d s) b (told-mono c s C S z h d e) g) k) (λ g. g)
 
-  pub over-tells : le (told p c) b ≡ false → (s : Float) → Binary64 s → le c s ≡ true → le (told p s) b ≡ false
-  over-tells k s S h = by-test (le (told p s) b) (λ g. clash (le-join (told p c) (told p s) b (told-mono c s C S z h p e) g) k) (λ g. g)
+  pub high-tells : le (toldBy d c) b ≡ true → (s : Float) → Binary64 s → lt zeroF s ≡ true → le s c ≡ true → le (toldBy d s) b ≡ true
+  high-tells k s S y h = le-join (toldBy d s) (toldBy d c) b (told-mono s c S C y h d e) k
 
-  pub high-tells : le (told p c) b ≡ true → (s : Float) → Binary64 s → lt zeroF s ≡ true → le s c ≡ true → le (told p s) b ≡ true
-  high-tells k s S y h = le-join (told p s) (told p c) b (told-mono s c S C y h p e) k
-
-  pub under-tells : le b (told p c) ≡ false → (s : Float) → Binary64 s → lt zeroF s ≡ true → le s c ≡ true → le b (told p s) ≡ false
-  under-tells k s S y h = by-test (le b (told p s)) (λ g. clash (le-join b (told p s) (told p c) g (told-mono s c S C y h p e)) k) (λ g. g)
+  pub under-tells : le b (toldBy d c) ≡ false → (s : Float) → Binary64 s → lt zeroF s ≡ true → le s c ≡ true → le b (toldBy d s) ≡ false
+  under-tells k s S y h = by-test (le b (toldBy d s)) (λ g. clash (le-join b (toldBy d s) (toldBy d c) g (told-mono s c S C y h d e)) k) (λ g. g)
 
 -- ---- in a window or out of it
 
@@ -113,8 +105,8 @@ pub both-sides : (to d : Float) → lies (neg to) to d ≡ le (absOf d) to
 unfolding lies within
 both-sides to d = sym (within-ends to d)
 
--- the distance from a plane
-pub plane-lies : (from to v : Float) → (from ≡ inf true) ⊎ (from ≡ neg to) → within to v ≡ lies from to (absOf v)
+-- a magnitude, where the bounds are as far from zero, or there is none below
+pub magnitude-lies : (from to v : Float) → (from ≡ inf true) ⊎ (from ≡ neg to) → within to v ≡ lies from to (absOf v)
 unfolding within
-plane-lies from to v (inl e) = rw e (sym (unbounded to (absOf v)))
-plane-lies from to v (inr e) = rw e (ap (λ (x : Float). le x to) (sym (abs-abs v)) ∙ sym (both-sides to (absOf v)))
+magnitude-lies from to v (inl e) = rw e (sym (unbounded to (absOf v)))
+magnitude-lies from to v (inr e) = rw e (ap (λ (x : Float). le x to) (sym (abs-abs v)) ∙ sym (both-sides to (absOf v)))

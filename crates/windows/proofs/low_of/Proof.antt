@@ -1,23 +1,17 @@
--- `listing::near::low_of` meets its contract. Assumes nothing.
+-- `windows::low_of` meets its contract. Assumes nothing.
 use mathlib.Core.Path.{_≡_, sym, ap, _∙_, subst}
 use lib.Dec.{T}
 use mathlib.Core.Bool.{true}
 use lib.Ieee.{Float, binary64, fits, le, ofBits}
 use Rattle.floats.proofs.Cases.{made-nan}
 use Rattle.basics.proofs.Bools.{and-both}
-use Rattle.listing.proofs.Windows.{low-tells, no-nan}
+use Rattle.windows.proofs.Tellings.{low-tells, no-nan}
 use borrow.Author.Needs.{needs}
-use Rattle.listing.proofs.near.low_of.Statement.{statement}
-use Rattle.listing.proofs.near.low_of.Tie as tie
+use Rattle.windows.proofs.low_of.Statement.{statement}
+use Rattle.windows.proofs.low_of.Tie as tie
 
 held : (c : tie.Start) → T (fits binary64 (c .args .c))
 held c = subst T (sym (c .good .1 .1 .0 .1)) tt
-
-is-steady-requires : tie.Need-is-steady-requires
-is-steady-requires c κs = search needs
-
-tell-requires : tie.Need-tell-requires
-tell-requires c κs = search needs
 
 returns : tie.Need-returns
 unfolding ofBits
@@ -25,10 +19,10 @@ returns c =
     let a = c .before .before .before in
     let w = and-both _ _ (c .if1 .taken) in
     let v = and-both _ _ (w .1) in
-    low-tells (a .args .place) (a .args .from) (a .args .c) (held a) (sym (c .before .before .is-steady .ensures) ∙ w .0) (v .0) (sym (ap (λ (d : Float). le (a .args .from) d) (c .before .tell .ensures)) ∙ v .1)
+    low-tells (a .args .d) (a .args .from) (a .args .c) (held a) (sym (c .before .before .is-steady .ensures) ∙ w .0) (v .0) (sym (ap (λ (v : Float). le (a .args .from) v) (c .before .told .ensures)) ∙ v .1)
 
 returns-2 : tie.Need-returns-2
 returns-2 c = λ s S h. no-nan s (subst (λ (x : Float). le x s ≡ true) made-nan h)
 
 pub low-of-spec : {M : Type 1} → statement M
-low-of-spec = tie.close (tie.spec is-steady-requires tell-requires returns returns-2)
+low-of-spec = tie.close (tie.spec (λ c κs. search needs) (λ c κs. search needs) returns returns-2)
