@@ -1,16 +1,15 @@
 -- The lines of document 01's 'Positions tried' that it marks with a star, evaluated against the definitions that the contracts cite: one list, one proof.
 -- Assumes nothing.
 use Prim.Native.Nat.{ℕ}
-use mathlib.Core.Path.{_≡_, refl}
+use mathlib.Core.Path.{_≡_}
 use mathlib.Core.Bool.{Bool, true, false}
 use mathlib.Core.Option.{Option, none, some}
 use mathlib.Core.List.{List, [], _∷_, map}
 use lib.ListN.{replicate}
 use lib.IntN.{pos, negsuc}
-use lib.Ieee.{Float, nan, inf, fin, binary64, add, sub, mul, div, ofInt, toUnsigned, ofBits}
+use lib.Ieee.{Float, nan, inf, fin}
 use Rattle.basics.specs.Refusals.{Answer, refused, success}
 use Rattle.floats.specs.Rounded.{zeroF, pow2, pow2⁻}
-use Rattle.floats.specs.Tests.{within}
 use Rattle.floats.specs.Sqrt.{sqrtOf}
 use Rattle.geometry.specs.Position.{positionOf}
 use Rattle.geometry.specs.Distances.{pointCircleAnswer}
@@ -22,7 +21,7 @@ use Rattle.grid_search.specs.declared.GivenU64.the-variants as count
 use Rattle.grid_search.specs.declared.GivenF64.the-variants as float
 use Rattle.grid_search.specs.Sheet.{newSheet}
 use Rattle.grid_search.specs.Examples.{S, lowOfS, highOfS}
-use Rattle.table.specs.Rows.{keyIn, before, same, chain, putRow}
+use Rattle.table.specs.Rows.{keyIn}
 use Rattle.table.specs.Library.{Library, table}
 use Rattle.rows.specs.Insert.{Turn, containerOf, insertion}
 use Rattle.search.specs.Search.{searchAnswer}
@@ -39,81 +38,81 @@ pub data Stated : Type 0 where
 
 -- ---- the answers as statements
 
-ofSheet : Answer GridSearch → Stated
+unfoldable pub ofSheet : Answer GridSearch → Stated
 ofSheet (refused n) = refusal n
 ofSheet (success s) = accepted
 
-ofInsertion : Answer ℕ → Stated
+unfoldable pub ofInsertion : Answer ℕ → Stated
 ofInsertion (refused n) = refusal n
 ofInsertion (success n) = number n
 
-ofSearch : Answer (Option ℕ) → Stated
+unfoldable pub ofSearch : Answer (Option ℕ) → Stated
 ofSearch (refused n) = refusal n
 ofSearch (success none) = nothing
 ofSearch (success (some i)) = number i
 
-ofDistance : Answer Float → Stated
+unfoldable pub ofDistance : Answer Float → Stated
 ofDistance (refused n) = refusal n
 ofDistance (success d) = floats (d ∷ [])
 
 -- the keys of the rows in use
-keysOf : Library → Stated
+unfoldable pub keysOf : Library → Stated
 unfolding table
 keysOf l = numbers (map keyIn (table l))
 
 -- ---- the floats of the lines
 
-abbrev half : Float
+abbrev pub half : Float
 half = fin false 1 (negsuc 0)
 
 -- 2.5, 3.5, 5.5
-abbrev twoAndHalf : Float
+abbrev pub twoAndHalf : Float
 twoAndHalf = fin false 5 (negsuc 0)
 
-abbrev threeAndHalf : Float
+abbrev pub threeAndHalf : Float
 threeAndHalf = fin false 7 (negsuc 0)
 
-abbrev fiveAndHalf : Float
+abbrev pub fiveAndHalf : Float
 fiveAndHalf = fin false 11 (negsuc 0)
 
 -- the next binary64 above 8: 8 + 2 ^ -49
-abbrev above8 : Float
+abbrev pub above8 : Float
 above8 = fin false 4503599627370497 (negsuc 48)
 
 -- 3 - 9 / 4096
-abbrev belowThree : Float
+abbrev pub belowThree : Float
 belowThree = fin false 12279 (negsuc 11)
 
 -- ---- on sheet S: corners (0, 0) and (8, 4), divisions 8, border 0, tolerance 1/512
 
 -- S with another tolerance
-withTolerance : Float → Stated
+unfoldable pub withTolerance : Float → Stated
 unfolding ofSheet newSheet
 withTolerance t = ofSheet (newSheet lowOfS highOfS (count.Given 8) (float.Given t) (float.Given zeroF))
 
 -- a library with room for n rows and none in use, whatever stands in it
-room : ℕ → Library
+unfoldable pub room : ℕ → Library
 room n = record { keys = replicate n 77; ids = replicate n 5; xs = replicate n nan; ys = replicate n (inf true); zs = replicate n half; used = 0 }
 
 -- id 7 at (2, 1), then at (5.5, 2.5); id 8 alone
-seven : ℕ → Turn ℕ
+unfoldable pub seven : ℕ → Turn ℕ
 unfolding insertion S room
 seven n = insertion S (room n) 7 (pow2 1 ∷ pow2 0 ∷ [])
 
-moved : Turn ℕ
+unfoldable pub moved : Turn ℕ
 unfolding insertion S seven
 moved = insertion S (seven 8 .library) 7 (fiveAndHalf ∷ twoAndHalf ∷ [])
 
-eight : Turn ℕ
+unfoldable pub eight : Turn ℕ
 unfolding insertion S room
 eight = insertion S (room 8) 8 (belowThree ∷ half ∷ [])
 
-find : Library → Float → Float → Stated
+unfoldable pub find : Library → Float → Float → Stated
 unfolding ofSearch searchAnswer S
 find l x y = ofSearch (searchAnswer S l (x ∷ y ∷ []))
 
 -- the triangle (0, 0), (4, 0), (0, 4)
-inTriangle : Float → Float → Zeta
+unfoldable pub inTriangle : Float → Float → Zeta
 unfolding triangleCoords
 inTriangle x y =
     triangleCoords (positionOf (zeroF ∷ zeroF ∷ [])) (positionOf (pow2 2 ∷ zeroF ∷ [])) (positionOf (zeroF ∷ pow2 2 ∷ [])) (positionOf (x ∷ y ∷ []))
@@ -124,10 +123,10 @@ pub record Line : Type 0 where
   pub given : Stated
   pub stated : Stated
 
-line : Stated → Stated → Line
+unfoldable pub line : Stated → Stated → Line
 line g s = record { given = g; stated = s }
 
-pub lines : List Line
+unfoldable pub lines : List Line
 unfolding line sqrtOf containerOf S find seven moved eight withTolerance pointCircleAnswer ofDistance ofInsertion keysOf inTriangle inside
 lines =
     -- S has divisions 8 and 4, and side 1
@@ -169,27 +168,23 @@ abbrev pub Agree : List Line → Type 0
 Agree [] = Unit {0}
 Agree (l ∷ ls) = (l .given ≡ l .stated) × Agree ls
 
-pub as-stated : Agree lines
-unfolding lines add sub mul div ofInt toUnsigned within room before same chain putRow
-as-stated = (refl, (refl, (refl, (refl, (refl, (refl, (refl, (refl, (refl, (refl, (refl, (refl, (refl, (refl, (refl, (refl, (refl, (refl, (refl, (refl, (refl, (refl, (refl, tt)))))))))))))))))))))))
-
 -- ---- beside them: 12 is judged on the rows as they would stand after the call; a mark is found wherever it has a row
 
 -- four rows, all in use: 7 at (2, 1)
-fourRows : Library
+unfoldable pub fourRows : Library
 fourRows = record { keys = 1 ∷ 2 ∷ 9 ∷ 10 ∷ []; ids = replicate 4 7; xs = replicate 4 (pow2 1); ys = replicate 4 (pow2 0); zs = replicate 4 zeroF; used = 4 }
 
 -- 7 at (2, 1) once more
-full : Turn ℕ
+unfoldable pub full : Turn ℕ
 unfolding insertion S fourRows
 full = insertion S fourRows 7 (pow2 1 ∷ pow2 0 ∷ [])
 
 -- 7 at the next float above 8
-beyond : Turn ℕ
+unfoldable pub beyond : Turn ℕ
 unfolding insertion S room
 beyond = insertion S (room 8) 7 (above8 ∷ pow2 2 ∷ [])
 
-pub others : List Line
+unfoldable pub others : List Line
 unfolding line ofInsertion ofSearch searchAnswer keysOf find full beyond moved S
 others =
     line (ofInsertion (full .answer)) (number 4)
@@ -199,7 +194,3 @@ others =
     ∷ line (find (moved .library) fiveAndHalf twoAndHalf) (number 7)
     ∷ line (ofSearch (searchAnswer S (room 8) [])) (refusal 2)
     ∷ []
-
-pub others-stated : Agree others
-unfolding others add sub mul div ofInt toUnsigned within room fourRows before same chain putRow
-others-stated = (refl, (refl, (refl, (refl, (refl, (refl, tt))))))

@@ -3,18 +3,17 @@ use Prim.Native.Nat.{ℕ, _≤_}
 use native.Mathlib.Omega.{arith}
 use mathlib.Core.Path.{_≡_, refl, sym, _∙_, ap}
 use mathlib.Core.Bool.{Bool, true, false, _||_, or-self-left}
-use mathlib.Core.List.{List, [], _∷_}
+use mathlib.Core.List.{List, [], _∷_, map}
 use lib.Dec.{ltb, eqb}
 use lib.ListN.{length}
 use borrow.Author.Tests.{eqb-true}
 use Rattle.basics.proofs.Bools.{by-test, clash}
-use Rattle.basics.specs.Lists.{any, keep, has, enter}
+use Rattle.basics.specs.Lists.{keep, has, enter}
 use Rattle.table.specs.declared.Row.{Row}
 use Rattle.table.specs.Rows.{idIn, own}
 use Rattle.sorting.specs.Ascent.{ascending}
 use Rattle.sorting.proofs.Ascent.{enter-ascending, enter-length}
 use Rattle.listing.specs.Listing.{idsOf, occupied}
-use Rattle.independence.specs.Queries.{holds}
 
 or-left-comm : (a b c : Bool) → (a || (b || c)) ≡ (b || (a || c))
 or-left-comm true true c = refl
@@ -30,15 +29,19 @@ has-enter i j (k ∷ ks) =
     by-test (eqb k j) (λ f. rw (e, f) (sym (ap (λ (n : ℕ). eqb n i || (eqb k i || has i ks)) (sym (eqb-true k j f)) ∙ or-self-left (eqb k i) (has i ks))))
     (λ f. rw (e, f, has-enter i j ks) (or-left-comm (eqb k i) (eqb j i) (has i ks))))
 
+-- one of the rows is the id's
+abbrev pub holds : ℕ → List Row → Bool
+holds i rows = has i (map idIn rows)
+
 -- an id is listed exactly if one of the rows that count is its own
 pub has-ids : (i : ℕ) (p : Row → Bool) (rows : List Row) → has i (idsOf p rows) ≡ holds i (keep p rows)
-unfolding has idsOf holds any keep
+unfolding has idsOf keep
 has-ids i p [] = refl
 has-ids i p (r ∷ rows) = by-test (p r) (λ e. rw e (has-enter i (idIn r) (idsOf p rows) ∙ ap (λ (b : Bool). eqb (idIn r) i || b) (has-ids i p rows))) (λ e. rw (e, has-ids i p rows))
 
 -- and so among its own rows
 pub holds-own : (i : ℕ) (p : Row → Bool) (rows : List Row) → holds i (keep p rows) ≡ holds i (keep p (own i rows))
-unfolding holds any keep own
+unfolding has keep own
 holds-own i p [] = refl
 holds-own i p (r ∷ rows) =
     let ih = holds-own i p rows in
@@ -46,7 +49,7 @@ holds-own i p (r ∷ rows) =
 
 -- no id is there where there is no row, and where an id has a row, there is one
 pub none-there : (i : ℕ) (p : Row → Bool) (rows : List Row) → occupied rows ≡ false → holds i (keep p rows) ≡ false
-unfolding holds any keep occupied
+unfolding has keep occupied
 none-there i p [] e = refl
 none-there i p (r ∷ rows) e = clash refl e
 

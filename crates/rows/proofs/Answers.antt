@@ -2,7 +2,7 @@
 -- Assumes nothing.
 use Prim.Native.Nat.{ℕ, _≤_, _<_}
 use mathlib.Core.Path.{_≡_, refl, sym, ap, _∙_, subst}
-use mathlib.Core.Bool.{Bool, true, false, cond, not}
+use mathlib.Core.Bool.{true, false, not}
 use mathlib.Core.Option.{Option, none, some}
 use mathlib.Core.List.{List, [], _∷_, _++_}
 use lib.Dec.{eqb}
@@ -141,6 +141,9 @@ module _ (s : GridSearch) (l : Library) (x : List Float) (k : Called s l x) wher
 
     pub called-key : {key : ContainerKey} → place (coords (s .ndim) p) ≡ Key key → (overshoots s x ≡ false) × (containerOf s x ≡ key .0)
     called-key g = located-key s x (sym (ap place called-at) ∙ g)
+
+    pub called-container : {key : ContainerKey} → place (coords (s .ndim) p) ≡ Key key → containerOf s (coords (s .ndim) p) ≡ key .0
+    called-container g = ap (containerOf s) called-at ∙ called-key g .1
 
     pub called-exceeds : place (coords (s .ndim) p) ≡ Exceeds → overshoots s x ≡ true
     called-exceeds g = located-not s x (sym (ap place called-at) ∙ g)

@@ -28,7 +28,7 @@ use Rattle.grid_search.specs.Sheet.{sheetOk}
 use Rattle.grid_search.proofs.Good.{good}
 use Rattle.table.specs.declared.Row.{Row}
 use Rattle.table.specs.Rows.{slotOf, sorted}
-use Rattle.table.specs.Library.{Library, table, write, space, tooLong, level, fits, roomy, soundLayout}
+use Rattle.table.specs.Library.{Library, table, write, Space, space, tooLong, level, fits, roomy}
 use Rattle.table.proofs.All.{sorted-all}
 use Rattle.table.proofs.Ids.{all-putIn}
 use Rattle.table.proofs.Libraries.{empty-table, table-write, write-used, space-write, layout-is, room-for, layout-kept}
@@ -180,3 +180,10 @@ empty-passes s l k v t e =
       rows = rw (empty-table l e);
       order = rw (empty-table l e);
     })
+
+-- so where a library passes, one without rows in the same space does
+pub empty-too : (s : GridSearch) (m l : Library) → space m ≡ space l → l .used ≡ 0 → fault (libraryTests s m) ≡ none → fault (libraryTests s l) ≡ none
+empty-too s m l z e v =
+    let w = whole s m v in
+    let flat : level (space m .rows) ≡ true = and-left (level (space m .rows)) (fits (space m .rows) (m .used)) (sym (layout-is m) ∙ w .layout) in
+    empty-passes s l (w .sheet) (ap (λ (u : Space). level (u .rows)) (sym z) ∙ flat) (ap tooLong (sym z) ∙ not-long s m v) e

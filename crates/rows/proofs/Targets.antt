@@ -4,7 +4,7 @@ use Prim.Native.Nat.{ℕ, zero, suc, _+_, _/_, _%_, _^_, _≤_, _<_}
 use native.Mathlib.Numerals.{add-one}
 use native.Mathlib.Omega.{arith}
 use mathlib.Core.Path.{_≡_, refl, sym, ap, ap₂, _∙_, subst}
-use mathlib.Core.Bool.{Bool, true, false, cond, not, _&&_, _||_, or-true, or-false, or-assoc}
+use mathlib.Core.Bool.{Bool, true, false, cond, not, _||_, or-true, or-false, or-assoc}
 use mathlib.Core.Option.{Option, none, some}
 use mathlib.Core.List.{List, [], _∷_, _++_, map}
 use lib.Dec.{eqb}
@@ -28,7 +28,7 @@ use Rattle.grid.specs.Containers.{outside, located}
 use Rattle.grid_search.specs.declared.GridSearch.{GridSearch}
 use Rattle.grid_search.specs.Sheet.{toleranceOf}
 use Rattle.table.specs.declared.Row.{Row}
-use Rattle.table.specs.Rows.{Slot, slotOf, sorted, putIn}
+use Rattle.table.specs.Rows.{slotOf, sorted, putIn}
 use Rattle.table.proofs.All.{sorted-all}
 use Rattle.table.proofs.Ids.{rows-ext, rowFor-putIn}
 use Rattle.rows.specs.Insert.{outsideSheet, overshoots, containerOf, corner, halo, points, targets, rowsWith, positionTests}

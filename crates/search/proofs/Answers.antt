@@ -1,20 +1,20 @@
 -- What a search answers: a law for each way out of the code.
 -- Assumes nothing.
 use Prim.Native.Nat.{ℕ}
-use mathlib.Core.Path.{_≡_, refl, sym, ap, _∙_}
+use mathlib.Core.Path.{_≡_, sym, ap, _∙_}
 use mathlib.Core.Bool.{true, false, or-false}
 use mathlib.Core.Option.{Option, none, some}
 use mathlib.Core.List.{List, [], _∷_, _++_, append-nil}
 use lib.Ieee.{Float}
-use Rattle.basics.specs.Lists.{any, keep}
+use Rattle.basics.specs.Lists.{any}
 use Rattle.basics.specs.Refusals.{Test, fault, code, answer, success, refused}
 use Rattle.basics.proofs.Refusals.{fault-right}
 use Rattle.grid_search.specs.declared.GridSearch.{GridSearch}
 use Rattle.table.specs.Library.{Library, table}
 use Rattle.rows.specs.Damage.{libraryTests}
-use Rattle.rows.specs.Insert.{overshoots, containerOf, positionTests}
+use Rattle.rows.specs.Insert.{overshoots, positionTests}
 use Rattle.rows.proofs.Answers.{Called, turned-first, position-exceeds, position-passes}
-use Rattle.search.specs.Search.{isNearIn, isNear, nearRows, chosen, searchTests, searchAnswer}
+use Rattle.search.specs.Search.{nearRows, chosen, searchTests, searchAnswer}
 
 module _ (s : GridSearch) (l : Library) (x : List Float) where
   by-fault : (o : Option ℕ) → fault (searchTests s l x) ≡ o → searchAnswer s l x ≡ answer o (chosen s x (nearRows s x (table l)))
@@ -46,12 +46,9 @@ module _ (s : GridSearch) (l : Library) (x : List Float) where
     pub search-exceeds : overshoots s x ≡ true → refused 17 ≡ searchAnswer s l x
     search-exceeds h = turned-away (past-library ∙ position-exceeds s x (x ∷ []) (k .position) (alone ∙ h))
 
-    finds : overshoots s x ≡ false → success (chosen s x (nearRows s x (table l))) ≡ searchAnswer s l x
+    -- of the position as the code has it
+    pub search-finds : {y : List Float} → y ≡ x → overshoots s x ≡ false → success (chosen s y (nearRows s y (table l))) ≡ searchAnswer s l x
     unfolding answer
-    finds h = sym (by-fault none (past-library ∙ position-passes s x (x ∷ []) (k .position) (alone ∙ h)))
-
-    -- the rows that the code looks at are the definition's
-    pub search-finds : {key : ℕ} {y : List Float} → (overshoots s x ≡ false) × (containerOf s x ≡ key) → y ≡ x
-        → success (chosen s y (keep (isNearIn s key y) (table l))) ≡ searchAnswer s l x
-    unfolding nearRows isNear
-    search-finds f e = rw (← f .1, e) (finds (f .0))
+    search-finds e h =
+        ap (λ (y : List Float). success (chosen s y (nearRows s y (table l)))) e
+        ∙ sym (by-fault none (past-library ∙ position-passes s x (x ∷ []) (k .position) (alone ∙ h)))

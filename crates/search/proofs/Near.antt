@@ -1,6 +1,6 @@
 -- Among rows in strict order, the first near one of a container has the lowest id; and the walk that finds it.
 -- Assumes nothing.
-use Prim.Native.Nat.{ℕ, zero, suc, _+_, min, _≤_, _<_, zero-le, suc-le-suc}
+use Prim.Native.Nat.{ℕ, zero, suc, _+_, _≤_, _<_, zero-le, suc-le-suc}
 use native.Mathlib.Nat.{le-of-suc-le-suc, min-eq-left, le-min}
 use native.Mathlib.Numerals.{add-one}
 use native.Mathlib.Omega.{arith}
@@ -26,7 +26,8 @@ use Rattle.table.specs.Posts.{Rising, InOrder}
 use Rattle.table.proofs.Order.{Lex, before-lex, before-trans, chain-sorted}
 use Rattle.table.proofs.First.{rising, first-most, below-first, from-first}
 use Rattle.table.proofs.Libraries.{ordered}
-use Rattle.search.specs.Search.{isNearIn, lowerOf, lowest, chosen}
+use Rattle.rows.specs.Insert.{containerOf}
+use Rattle.search.specs.Search.{isNear, nearRows, lowerOf, lowest, chosen}
 
 -- ---- the first row that passes a test
 
@@ -94,55 +95,56 @@ module _ (p : Row → Bool) where
 
 -- over the rows of a container, from its first row to the first of another
 module _ (s : GridSearch) (l : Library) (key : ℕ) (x : List Float) where
-  abbrev near : Row → Bool
-  near = isNearIn s key x
-
   -- the walk has come to row i, which stands no earlier than the container's first, and no row before it is near
   pub record Looking (i : ℕ) : Type 0 where
     pub from : lead key (take (l .used) (l .keys)) ≤ i
     pub upto : i ≤ l .used
-    pub rest : firstOf near (table l) ≡ firstOf near (drop i (table l))
+    pub rest : firstOf (isNear s x) (table l) ≡ firstOf (isNear s x) (drop i (table l))
 
-module _ (s : GridSearch) (l : Library) (o : InOrder l) (key : ℕ) (x : List Float) where
+module _ (s : GridSearch) (l : Library) (o : InOrder l) (key : ℕ) (x : List Float) (c : containerOf s x ≡ key) where
   up : Rising (l .keys) (l .used)
   up = rising (ordered o)
 
-  other-key : (r : Row) → (keyIn r ≡ key → ⊥) → near s l key x r ≡ false
-  unfolding isNearIn
-  other-key r e = rw (ne-eqb (keyIn r) key e)
+  other-key : (r : Row) → (keyIn r ≡ key → ⊥) → isNear s x r ≡ false
+  unfolding isNear
+  other-key r e = rw (c, ne-eqb (keyIn r) key e)
+
+  of-key : (r : Row) → isNear s x r ≡ true → keyIn r ≡ key
+  unfolding isNear
+  of-key r h = eqb-true (keyIn r) key (rw c at (and-left (eqb (keyIn r) (containerOf s x)) _ h))
 
   -- the choice is the first of the near rows
-  choice : {c : Option ℕ} → firstOf (near s l key x) (table l) ≡ c → chosen s x (keep (near s l key x) (table l)) ≡ c
-  unfolding chosen isNearIn
-  choice e = lowest-first (near s l key x) key (λ r h. eqb-true (keyIn r) key (and-left (eqb (keyIn r) key) _ h)) (table l) (o .order) ∙ e
+  choice : {f : Option ℕ} → firstOf (isNear s x) (table l) ≡ f → chosen s x (nearRows s x (table l)) ≡ f
+  unfolding chosen nearRows
+  choice e = lowest-first (isNear s x) key of-key (table l) (o .order) ∙ e
 
   pub look-start : (i : ℕ) → i ≡ lead key (take (l .used) (l .keys)) → Looking s l key x i
   unfolding table rowsOf
   look-start i e =
       let h : i ≤ l .used = omega (arith, first-most (l .keys) (l .used) up key) in
-      let low : (j : ℕ) → j < i → near s l key x (rowAt l j) ≡ false = λ j k. other-key (rowAt l j) (λ q. omega (arith, below-first (l .keys) (l .used) up key j (omega arith))) in
-      record { from = omega arith; upto = h; rest = first-skip (near s l key x) (l .used) (rowAt l) i h low }
+      let low : (j : ℕ) → j < i → isNear s x (rowAt l j) ≡ false = λ j k. other-key (rowAt l j) (λ q. omega (arith, below-first (l .keys) (l .used) up key j (omega arith))) in
+      record { from = omega arith; upto = h; rest = first-skip (isNear s x) (l .used) (rowAt l) i h low }
 
   module _ (i : ℕ) (w : Looking s l key x i) where
     -- a row of another container: there is none of this one from it on
-    pub look-stop : i < l .used → (getD (l .keys) i 0 ≡ key → ⊥) → chosen s x (keep (near s l key x) (table l)) ≡ none
+    pub look-stop : i < l .used → (getD (l .keys) i 0 ≡ key → ⊥) → chosen s x (nearRows s x (table l)) ≡ none
     unfolding table rowsOf
     look-stop k f =
         let above : key ≤ getD (l .keys) i 0 = from-first (l .keys) (l .used) up key i (w .from) k in
-        choice (w .rest ∙ first-none (near s l key x) (l .used) (rowAt l) i (λ j h m. other-key (rowAt l j) (λ q. f (omega (arith, up .rise i j h m)))))
+        choice (w .rest ∙ first-none (isNear s x) (l .used) (rowAt l) i (λ j h m. other-key (rowAt l j) (λ q. f (omega (arith, up .rise i j h m)))))
 
     -- a row of this container
     module _ (k : i < l .used) (f : getD (l .keys) i 0 ≡ key) {r : Row} (e : r ≡ rowAt l i) {b : Bool} (d : b ≡ le (pointPoint (coords (s .ndim) (r .at)) x) (s .«tol_dist»)) where
-      turn : firstOf (near s l key x) (table l) ≡ cond b (some (idIn r)) (firstOf (near s l key x) (drop (i + 1) (table l)))
-      unfolding table rowsOf isNearIn
-      turn = w .rest ∙ first-step (near s l key x) (l .used) (rowAt l) i k ∙ rw (d, e, eq-eqb (getD (l .keys) i 0) key f)
+      turn : firstOf (isNear s x) (table l) ≡ cond b (some (idIn r)) (firstOf (isNear s x) (drop (i + 1) (table l)))
+      unfolding table rowsOf isNear
+      turn = w .rest ∙ first-step (isNear s x) (l .used) (rowAt l) i k ∙ rw (c, d, e, eq-eqb (getD (l .keys) i 0) key f)
 
-      pub look-found : b ≡ true → chosen s x (keep (near s l key x) (table l)) ≡ some (idIn r)
+      pub look-found : b ≡ true → chosen s x (nearRows s x (table l)) ≡ some (idIn r)
       look-found y = choice (turn ∙ rw y)
 
       pub look-again : b ≡ false → Looking s l key x (i + 1)
       look-again y = record { from = omega (arith, w .from); upto = omega arith; rest = turn ∙ rw y }
 
-    pub look-end : l .used ≤ i → chosen s x (keep (near s l key x) (table l)) ≡ none
+    pub look-end : l .used ≤ i → chosen s x (nearRows s x (table l)) ≡ none
     unfolding table rowsOf
-    look-end h = choice (w .rest ∙ first-none (near s l key x) (l .used) (rowAt l) i (λ j k m. absurd (omega arith)))
+    look-end h = choice (w .rest ∙ first-none (isNear s x) (l .used) (rowAt l) i (λ j k m. absurd (omega arith)))

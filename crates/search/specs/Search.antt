@@ -19,15 +19,10 @@ use Rattle.rows.specs.Insert.{containerOf, positionTests}
 use Rattle.search.specs.declared.Found.{Found}
 use Rattle.search.specs.declared.Found.the-variants.{Id, Nothing, Refused}
 
--- a row is in a container and its computed distance from a position is at most tol_dist
-unfoldable pub isNearIn : GridSearch → ℕ → List Float → Row → Bool
-unfolding pointPoint le
-isNearIn s key x r = eqb (keyIn r) key && le (pointPoint (coords (s .ndim) (r .at)) x) (s .«tol_dist»)
-
--- a row is near a position: so in the position's container
+-- a row is near a position: it is in the position's container, and its computed distance is at most tol_dist
 unfoldable pub isNear : GridSearch → List Float → Row → Bool
-unfolding containerOf isNearIn
-isNear s x r = isNearIn s (containerOf s x) x r
+unfolding containerOf pointPoint le
+isNear s x r = eqb (keyIn r) (containerOf s x) && le (pointPoint (coords (s .ndim) (r .at)) x) (s .«tol_dist»)
 
 unfoldable pub nearRows : GridSearch → List Float → List Row → List Row
 unfolding keep isNear

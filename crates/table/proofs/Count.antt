@@ -1,10 +1,10 @@
 -- How many rows a mark's stores will make, found before anything is written.
 -- Assumes nothing.
-use Prim.Native.Nat.{ℕ, zero, suc, _+_, _≤_, _<_}
+use Prim.Native.Nat.{ℕ, _+_, _≤_, _<_}
 use native.Mathlib.Numerals.{add-one}
 use native.Mathlib.Omega.{arith}
 use mathlib.Core.Path.{_≡_, refl, sym, ap, _∙_, subst}
-use mathlib.Core.Bool.{Bool, true, false, _&&_, _||_, cond, or-true, or-false, and-true}
+use mathlib.Core.Bool.{Bool, true, false, _||_, cond, or-true, or-false, and-true}
 use mathlib.Core.List.{List, [], _∷_, map}
 use lib.ListN.{length, getD, take, drop, length-map}
 use lib.Seq.{slice-cons, slice-empty, take-all}

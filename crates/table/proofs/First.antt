@@ -6,7 +6,7 @@ use native.Mathlib.Nat.{mul-le-mul-right, le-of-suc-le-suc, not-suc-le-zero, eq-
 use native.Mathlib.Decide.{decLe}
 use mathlib.Core.Path.{_≡_, refl, sym, ap, _∙_, subst}
 use mathlib.Core.Logic.{_⊎_, inl, inr, ⊎-elim}
-use mathlib.Core.Bool.{Bool, true, false, cond, and-false, or-false}
+use mathlib.Core.Bool.{true, and-false, or-false}
 use mathlib.Core.List.{List, [], _∷_, map}
 use lib.Dec.{ltb}
 use lib.ListN.{length, getD, take}
@@ -14,7 +14,7 @@ use lib.Seq.{length-take-le, getD-take}
 use borrow.Author.Tests.{ltb-true, ltb-false, le-ltb}
 use Rattle.basics.proofs.Bools.{by-test}
 use Rattle.basics.proofs.Lists.{map-tab, tab-take}
-use Rattle.table.specs.Rows.{Slot, slotted, slotAt, slotsOf, before, sorted, lower, lead}
+use Rattle.table.specs.Rows.{Slot, slotted, slotAt, slotsOf, before, lower, lead}
 use Rattle.table.specs.Posts.{Rising, Ordered, OneBelow, Between}
 use Rattle.table.proofs.Order.{Lex, before-lex, sorted-at}
 

@@ -1,6 +1,6 @@
 -- Rows in strict order are known by the row of each slot. What is in the table after a mark's stores, and what they do to the rows of one id.
 -- Assumes nothing.
-use Prim.Native.Nat.{ℕ, _≤_, _<_}
+use Prim.Native.Nat.{ℕ, _≤_}
 use native.Mathlib.Omega.{arith}
 use mathlib.Core.Path.{_≡_, refl, sym, ap, ap₂, _∙_, subst}
 use mathlib.Core.Bool.{Bool, true, false, _&&_, _||_, cond, and-false}
@@ -128,12 +128,6 @@ module _ (i : ℕ) where
       let d = and-both (before p (slotOf s)) (chain (slotOf s) (map slotOf rows)) e in
       by-test (eqb (idIn s) i) (λ f. rw f (both (d .0) (chain-own (slotOf s) rows (d .1))))
       (λ f. rw f (chain-own p rows (chain-down p (slotOf s) (map slotOf rows) (d .0) (d .1))))
-
-  pub sorted-own : (rows : List Row) → sorted (map slotOf rows) ≡ true → sorted (map slotOf (own i rows)) ≡ true
-  unfolding own keep sorted
-  sorted-own [] e = refl
-  sorted-own (s ∷ rows) e =
-      by-test (eqb (idIn s) i) (λ f. rw f (chain-own (slotOf s) rows e)) (λ f. rw f (sorted-own rows (chain-sorted (slotOf s) (map slotOf rows) e)))
 
   -- another id's row changes nothing
   other-put : (r : Row) (rows : List Row) → eqb (idIn r) i ≡ false → own i (putRow r rows) ≡ own i rows

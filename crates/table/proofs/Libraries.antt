@@ -4,7 +4,7 @@ use Prim.Native.Nat.{ℕ, zero, suc, _≤_}
 use native.Mathlib.Nat.{not-suc-le-zero, le-of-suc-le-suc}
 use native.Mathlib.Omega.{arith}
 use mathlib.Core.Path.{_≡_, refl, sym, ap, ap₂, _∙_, subst}
-use mathlib.Core.Bool.{Bool, true, _&&_}
+use mathlib.Core.Bool.{true, _&&_}
 use mathlib.Core.List.{List, [], _∷_, _++_, map}
 use lib.Dec.{eqb}
 use lib.ListN.{length, take, drop, length-map, length-append, length-drop, take-append-drop}
@@ -15,7 +15,7 @@ use Rattle.basics.proofs.Bools.{both, and-both}
 use Rattle.basics.specs.Lists.{all, over}
 use Rattle.basics.proofs.Lists.{length-tab, map-tab, tab-take}
 use Rattle.table.specs.declared.Row.{Row}
-use Rattle.table.specs.Rows.{slotOf, slotAt, slotsOf, keyIn, idIn, xIn, yIn, zIn}
+use Rattle.table.specs.Rows.{slotOf, slotsOf, keyIn, idIn, xIn, yIn, zIn}
 use Rattle.table.specs.Library.{Library, library, rowAt, rowsOf, table, write, lengths, Space, space, level, fits, roomy, soundLayout}
 use Rattle.table.specs.Posts.{Ordered, Long, Room, InOrder, eachOf}
 

@@ -4,17 +4,17 @@ use Prim.Native.Nat.{ℕ, zero, suc, _+_, _-_, _≤_, _<_, zero-le, suc-le-suc}
 use native.Mathlib.Nat.{le-of-suc-le-suc, not-suc-le-zero, eq-or-lt-of-le}
 use native.Mathlib.Numerals.{add-one}
 use native.Mathlib.Omega.{arith}
-use mathlib.Core.Path.{_≡_, refl, sym, ap, _∙_, subst}
+use mathlib.Core.Path.{_≡_, refl, sym, ap, subst}
 use mathlib.Core.Logic.{_⊎_, inl, inr, ⊎-elim}
-use mathlib.Core.Bool.{Bool, true, false, _&&_, _||_, cond, false≢true, or-true}
-use mathlib.Core.List.{List, [], _∷_, map}
+use mathlib.Core.Bool.{true, false, _&&_, false≢true, or-true}
+use mathlib.Core.List.{List, [], _∷_}
 use lib.ListN.{length, drop}
 use lib.Dec.{ltb, eqb}
 use borrow.Author.Tests.{ltb-true, eqb-true, lt-ltb, eq-eqb}
 use Rattle.basics.proofs.Bools.{by-test, clash, and-both, or-either}
 use Rattle.basics.specs.Lists.{tab}
 use Rattle.basics.proofs.Numbers.{trichotomy}
-use Rattle.basics.proofs.Lists.{length-tab, drop-tab}
+use Rattle.basics.proofs.Lists.{drop-tab}
 use Rattle.table.specs.Rows.{Slot, before, same, chain, sorted, lower, held}
 
 -- ---- the order

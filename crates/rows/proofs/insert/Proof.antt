@@ -41,6 +41,9 @@ returns c =
     let n = c .before .before .before .before .before .before .before .before .before .before .before .before .before .before .before .before .before .new in
     stored (a .args .sheet) _ (a .args .id .0) (a .args .x .now) (n .result) (n .ensures) ok (c .before .before .before .before .before .before .before .before .before .before .put-all .ensures)
 
+enum-known-judged-2 : tie.Need-enum-known-judged-2
+enum-known-judged-2 c = search needs
+
 returns-2 : tie.Need-returns-2
 returns-2 c =
     let a = c .before .before .before .before .before .before .before .before .before .before .before .before .before .before .before .before .before in
@@ -58,7 +61,7 @@ insert-spec =
     array-share-prefix-into
     slice-aggregate-put-all
     put-all-requires
-    (λ c. search needs)
+    enum-known-judged-2
     (λ c. search needs)
     (λ c. search needs)
     (λ c. search needs)

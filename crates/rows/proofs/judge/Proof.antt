@@ -3,7 +3,6 @@
 use mathlib.Core.Path.{sym, _∙_}
 use lib.Seq.{length-take-le}
 use borrow.Author.Needs.{needs}
-use native.Mathlib.Omega.{arith}
 use Rattle.table.proofs.Libraries.{ordered}
 use Rattle.rows.proofs.Answers.{called, called-sheet, called-order, called-inside, refused-first, judged-exceeds, judged-full, judged-into}
 use Rattle.rows.proofs.judge.Statement.{statement}

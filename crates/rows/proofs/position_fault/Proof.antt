@@ -1,6 +1,6 @@
 -- `position_fault` meets its contract: a law for each way out.
 -- Assumes nothing.
-use mathlib.Core.Path.{sym, ap, _∙_}
+use mathlib.Core.Path.{sym, _∙_}
 use borrow.Author.Needs.{needs}
 use borrow.Author.Tests.{ne-eqb, not-true, not-false}
 use Rattle.rows.proofs.Targets.{bad-length, bad-coordinates, bad-place, placed}

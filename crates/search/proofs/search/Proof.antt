@@ -2,7 +2,7 @@
 -- Assumes nothing.
 use mathlib.Core.Path.{sym, _∙_}
 use borrow.Author.Needs.{needs}
-use Rattle.rows.proofs.Answers.{called, called-sheet, called-order, called-at, called-key, called-exceeds}
+use Rattle.rows.proofs.Answers.{called, called-sheet, called-order, called-at, called-key, called-container, called-exceeds}
 use Rattle.search.proofs.Answers.{search-first, search-exceeds, search-finds}
 use Rattle.search.proofs.search.Statement.{statement}
 use Rattle.search.proofs.search.Tie as tie
@@ -29,7 +29,8 @@ find-near-requires c κs =
     let a = c .before .before .before .before .before .before .before .before .before .before .before .before .before in
     let s = a .args .sheet in
     let k = called s _ (a .args .x .now) (sym (c .before .before .before .before .before .if1 .left) ∙ c .before .before .before .before .before .before .call-fault .ensures) in
-    (called-sheet s _ _ k .axes, called-order s _ _ k)
+    let n = c .before .before .before .before .new .ensures in
+    (called-sheet s _ _ k .axes, (called-container s _ _ k n (sym (c .before .before .before .calc-container-key .ensures) ∙ c .before .place .given .1), called-order s _ _ k))
 
 returns-3 : tie.Need-returns-3
 returns-3 c =
@@ -37,7 +38,7 @@ returns-3 c =
     let s = a .args .sheet in
     let k = called s _ (a .args .x .now) (sym (c .before .before .before .before .before .before .if1 .left) ∙ c .before .before .before .before .before .before .before .call-fault .ensures) in
     let n = c .before .before .before .before .before .new .ensures in
-    c .find-near .ensures ∙ search-finds s _ _ k (called-key s _ _ k n (sym (c .before .before .before .before .calc-container-key .ensures) ∙ c .before .before .place .given .1)) (called-at s _ _ k n)
+    c .find-near .ensures ∙ search-finds s _ _ k (called-at s _ _ k n) (called-key s _ _ k n (sym (c .before .before .before .before .calc-container-key .ensures) ∙ c .before .before .place .given .1) .0)
 
 pub search-spec : {M : Type 1} → statement M
 search-spec =

@@ -1,0 +1,2 @@
+-- The examples, evaluated.
+pub mod Stated
