@@ -15,17 +15,28 @@
 #define SQUARES 90
 #define CELLS (2 * SQUARES * SQUARES)
 #define POINTS ((SQUARES + 1) * (SQUARES + 1))
+#define CUBES 10
+#define TETS (6 * CUBES * CUBES * CUBES)
+#define NODES ((CUBES + 1) * (CUBES + 1) * (CUBES + 1))
 
-/* What the threads read together: sheets in 2D and 3D, a full library on each, and a mesh with its index. */
+/* What the threads read together: sheets in 2D and 3D, a full library on each, and meshes of triangles and of tetrahedra, each
+   with its index. */
 static uint64_t numbers[2][GEMLAB_SHEET_NUMBERS];
 static double floats[2][GEMLAB_SHEET_FLOATS];
 static uint64_t keys[MOST], ids[MOST];
 static double xs[MOST], ys[MOST], zs[MOST];
-static double coords[2 * POINTS];
-static uint32_t corners[3 * CELLS];
-static uint64_t index_keys[MOST], index_cells[MOST], index_large[CELLS];
-static uint64_t index_numbers[GEMLAB_CELLS_NUMBERS];
-static double index_floats[GEMLAB_CELLS_FLOATS];
+static double flat_coords[2 * POINTS], solid_coords[3 * NODES];
+static uint32_t flat_corners[3 * CELLS], solid_corners[4 * TETS];
+static const struct mesh {
+    const double *coords;
+    size_t coords_len;
+    const uint32_t *corners;
+    size_t corners_len;
+} meshes[2] = {{flat_coords, 2 * POINTS, flat_corners, 3 * CELLS}, {solid_coords, 3 * NODES, solid_corners, 4 * TETS}};
+static struct {
+    uint64_t keys[MOST], cells[MOST], large[MOST], numbers[GEMLAB_CELLS_NUMBERS];
+    double floats[GEMLAB_CELLS_FLOATS];
+} indexes[2];
 
 /* What each thread has for itself: lists to write, and results. */
 struct own {
@@ -107,6 +118,28 @@ static void list_few_3d(struct own *o)
     list_on(o, 3, GEMLAB_CYLINDER, low, axis, 1000, 1024);
 }
 
+/* One of the rows' containers in each place along the line counts: 256 in 2D and 41 in 3D. */
+static void list_line(struct own *o)
+{
+    list_on(o, 2, GEMLAB_LINE, low, far_off, 0, MOST);
+}
+
+static void list_line_3d(struct own *o)
+{
+    list_on(o, 3, GEMLAB_LINE, low, far_off, 0, MOST);
+}
+
+/* The rows of the lowest layer of 41 by 41 containers count. */
+static void list_plane(struct own *o)
+{
+    list_on(o, 3, GEMLAB_PLANE_XY, low, low, 0, 1024);
+}
+
+static void list_layer(struct own *o)
+{
+    list_on(o, 3, GEMLAB_PLANE_XY, low, low, 0, MOST);
+}
+
 /* None of the rows counts: their containers are apart from the line. */
 static void list_none(struct own *o)
 {
@@ -125,19 +158,44 @@ static void list_many_3d(struct own *o)
     list_on(o, 3, GEMLAB_CYLINDER, low, axis, 1000, MOST);
 }
 
-static void build(struct own *o)
+static void build_on(struct own *o, size_t dim)
 {
-    o->returned = gemlab_grid_cells_new(2, coords, 2 * POINTS, corners, 3 * CELLS, 0, 0, 0, 0, 0, 0, 0, 0, o->keys, MOST, o->ids,
-                                        MOST, o->list, MOST, o->numbers, GEMLAB_CELLS_NUMBERS, o->floats, GEMLAB_CELLS_FLOATS);
+    const struct mesh *m = &meshes[dim - 2];
+
+    o->returned = gemlab_grid_cells_new(dim, m->coords, m->coords_len, m->corners, m->corners_len, 0, 0, 0, 0, 0, 0, 0, 0,
+                                        o->keys, MOST, o->ids, MOST, o->list, MOST, o->numbers, GEMLAB_CELLS_NUMBERS, o->floats,
+                                        GEMLAB_CELLS_FLOATS);
 }
 
-static void locate(struct own *o)
+static void build_2d(struct own *o)
 {
-    static const double at[2] = {3.3, 4.4};
+    build_on(o, 2);
+}
 
-    o->returned = gemlab_grid_cells_search(index_numbers, GEMLAB_CELLS_NUMBERS, index_floats, GEMLAB_CELLS_FLOATS, coords,
-                                           2 * POINTS, corners, 3 * CELLS, index_keys, MOST, index_cells, MOST, index_large,
-                                           CELLS, at, 2, o->zeta, 4, &o->found, &o->id);
+static void build_3d(struct own *o)
+{
+    build_on(o, 3);
+}
+
+static void locate_on(struct own *o, size_t dim)
+{
+    static const double at[3] = {3.3, 4.4, 5.1};
+    const struct mesh *m = &meshes[dim - 2];
+
+    o->returned = gemlab_grid_cells_search(indexes[dim - 2].numbers, GEMLAB_CELLS_NUMBERS, indexes[dim - 2].floats,
+                                           GEMLAB_CELLS_FLOATS, m->coords, m->coords_len, m->corners, m->corners_len,
+                                           indexes[dim - 2].keys, MOST, indexes[dim - 2].cells, MOST, indexes[dim - 2].large,
+                                           MOST, at, dim, o->zeta, 4, &o->found, &o->id);
+}
+
+static void locate_2d(struct own *o)
+{
+    locate_on(o, 2);
+}
+
+static void locate_3d(struct own *o)
+{
+    locate_on(o, 3);
 }
 
 static const struct call {
@@ -151,12 +209,18 @@ static const struct call {
     {"an insertion in 3D", insert_3d, GEMLAB_STACK},
     {"a search", search_3d, GEMLAB_STACK},
     {"a listing of 65,536 rows of which none counts", list_none, GEMLAB_STACK},
+    {"a listing on a line in 2D", list_line, GEMLAB_STACK},
+    {"a listing on a line in 3D", list_line_3d, GEMLAB_STACK},
+    {"a listing of 1,024 rows on a plane", list_plane, GEMLAB_STACK},
+    {"a listing of 65,536 rows on a plane", list_layer, GEMLAB_STACK_LISTING},
     {"a listing of 1,024 rows in 2D", list_few, GEMLAB_STACK},
     {"a listing of 1,024 rows in 3D", list_few_3d, GEMLAB_STACK},
     {"a listing of 65,536 rows in 2D", list_many, GEMLAB_STACK_LISTING},
     {"a listing of 65,536 rows in 3D", list_many_3d, GEMLAB_STACK_LISTING},
-    {"a cell build", build, GEMLAB_STACK},
-    {"a cell search", locate, GEMLAB_STACK},
+    {"a cell build in 2D", build_2d, GEMLAB_STACK},
+    {"a cell build in 3D", build_3d, GEMLAB_STACK},
+    {"a cell search in 2D", locate_2d, GEMLAB_STACK},
+    {"a cell search in 3D", locate_3d, GEMLAB_STACK},
 };
 
 /* What a thread has for itself before it makes a call. */
@@ -228,7 +292,8 @@ static int tried(const struct call *call, int measure)
         most = depth(&jobs[i]) > most ? depth(&jobs[i]) : most;
         free_area(&jobs[i].stack);
     }
-    printf("%s: returned %" PRIu64 ", on %d threads with %zu bytes left", call->name, owns[0]->returned, THREADS, call->stack);
+    printf("%s: returned %" PRIu64 ", found %" PRIu64 ", listed %" PRIu64 ", on %d threads with %zu bytes left", call->name,
+           owns[0]->returned, owns[0]->found, owns[0]->count, THREADS, call->stack);
     if (measure) {
         printf(", took %zu", most);
     }
@@ -237,10 +302,53 @@ static int tried(const struct call *call, int measure)
     return same;
 }
 
-/* Full libraries of one mark, at (1000, 0, 0): the rows are written here and not by insertion. And a mesh of squares. */
+/* A mesh of squares of two triangles each, and one of cubes of six tetrahedra each, which go from corner 0 to corner 7 over two
+   corners between them. */
+static void prepare_meshes(void)
+{
+    static const uint32_t ways[6][2] = {{1, 3}, {1, 5}, {2, 3}, {2, 6}, {4, 5}, {4, 6}};
+    size_t i, j, k, t;
+
+    for (i = 0; i < POINTS; i++) {
+        flat_coords[2 * i] = (double)(i % (SQUARES + 1)) / 8;
+        flat_coords[2 * i + 1] = (double)(i / (SQUARES + 1)) / 8;
+    }
+    for (i = 0; i < SQUARES; i++) {
+        for (j = 0; j < SQUARES; j++) {
+            uint32_t p = (uint32_t)(i * (SQUARES + 1) + j);
+            const uint32_t square[6] = {p, p + 1, p + SQUARES + 2, p, p + SQUARES + 2, p + SQUARES + 1};
+
+            memcpy(flat_corners + 6 * (i * SQUARES + j), square, sizeof square);
+        }
+    }
+    for (i = 0; i < NODES; i++) {
+        solid_coords[3 * i] = (double)(i % (CUBES + 1));
+        solid_coords[3 * i + 1] = (double)(i / (CUBES + 1) % (CUBES + 1));
+        solid_coords[3 * i + 2] = (double)(i / ((CUBES + 1) * (CUBES + 1)));
+    }
+    for (i = 0; i < CUBES * CUBES * CUBES; i++) {
+        uint32_t x = (uint32_t)(i % CUBES), y = (uint32_t)(i / CUBES % CUBES), z = (uint32_t)(i / (CUBES * CUBES));
+
+        for (t = 0; t < 6; t++) {
+            const uint32_t four[4] = {0, ways[t][0], ways[t][1], 7};
+
+            for (k = 0; k < 4; k++) {
+                solid_corners[4 * (6 * i + t) + k] = x + (four[k] & 1)
+                    + (CUBES + 1) * (y + (four[k] >> 1 & 1) + (CUBES + 1) * (z + (four[k] >> 2)));
+            }
+        }
+    }
+    for (i = 0; i < 2; i++) {
+        gemlab_grid_cells_new(i + 2, meshes[i].coords, meshes[i].coords_len, meshes[i].corners, meshes[i].corners_len, 0, 0, 0, 0,
+                              0, 0, 0, 0, indexes[i].keys, MOST, indexes[i].cells, MOST, indexes[i].large, MOST,
+                              indexes[i].numbers, GEMLAB_CELLS_NUMBERS, indexes[i].floats, GEMLAB_CELLS_FLOATS);
+    }
+}
+
+/* Full libraries of one mark, at (1000, 0, 0): the rows are written here and not by insertion. */
 static void prepare(void)
 {
-    size_t i, j;
+    size_t i;
 
     for (i = 0; i < 2; i++) {
         /* 256 by 256 and 41 by 41 by 41 containers */
@@ -252,20 +360,7 @@ static void prepare(void)
         ids[i] = 7;
         xs[i] = 1000;
     }
-    for (i = 0; i < POINTS; i++) {
-        coords[2 * i] = (double)(i % (SQUARES + 1)) / 8;
-        coords[2 * i + 1] = (double)(i / (SQUARES + 1)) / 8;
-    }
-    for (i = 0; i < SQUARES; i++) {
-        for (j = 0; j < SQUARES; j++) {
-            uint32_t p = (uint32_t)(i * (SQUARES + 1) + j);
-            const uint32_t square[6] = {p, p + 1, p + SQUARES + 2, p, p + SQUARES + 2, p + SQUARES + 1};
-
-            memcpy(corners + 6 * (i * SQUARES + j), square, sizeof square);
-        }
-    }
-    gemlab_grid_cells_new(2, coords, 2 * POINTS, corners, 3 * CELLS, 0, 0, 0, 0, 0, 0, 0, 0, index_keys, MOST, index_cells, MOST,
-                          index_large, CELLS, index_numbers, GEMLAB_CELLS_NUMBERS, index_floats, GEMLAB_CELLS_FLOATS);
+    prepare_meshes();
 }
 
 int main(int count, char **arguments)

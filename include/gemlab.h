@@ -37,9 +37,10 @@
  * A mark takes at most GEMLAB_MARK_ROWS(ndim) rows, 5 in 2D and 9 in 3D: one mostly, 4 or 8 where
  * containers meet, and one more only where the side of a container is within rounding of twice the
  * tolerance. Inserted again elsewhere, it takes as many again. A cell takes at most
- * GEMLAB_CELL_ROWS(ndim) rows, 4 in 2D and 8 in 3D. Large cells are at most the part
- * large_pct of the cells. A listing has at most as many ids as rows are in use. Lists of these
- * lengths are never refused for want of room (12, 14); a list of rows has at most 65,536 (24).
+ * GEMLAB_CELL_ROWS(ndim) rows, 4 in 2D and 8 in 3D. Large cells are at most the part large_pct of
+ * the cells, rounded up; a list as long as the cells is always enough. A listing has at most as
+ * many ids as rows are in use. Lists of these lengths are never refused for want of room (12, 14);
+ * a list of rows has at most 65,536 (24).
  *
  *
  * Threads and stack

@@ -1,12 +1,14 @@
 #!/bin/sh
 # tests/catalogue.sh: proves and builds the program `catalogue` where it is not that of the present files, runs it on each case
 # of tests/catalogue.cases and compares what it prints, byte for byte; a run may take 20 seconds. docs/STORED.md says where the
-# cases come from. Then it is run where its text cannot be written.
+# cases come from. Then it is run on a pipe, and where its text cannot be written.
 set -eu
+unset CDPATH
 cd "$(dirname "$0")/.."
 exec 3>&1
 cases=$PWD/tests/catalogue.cases
 program=$PWD/target/bin/catalogue
+data=$PWD/crates/catalogue/data
 said=$(rt check catalogue 2>&1) || {
     echo "$said"
     exit 1
@@ -79,6 +81,18 @@ while IFS= read -r line; do
     esac
 done <"$cases"
 judge
+
+# Document 01's sample with marks that come through a pipe, a byte more or less than a record at a time.
+name='marks from a pipe'
+rm -rf sheet.bin marks.bin
+cp "$data/sheet.bin" .
+mkfifo marks.bin
+{ head -c 33 "$data/marks.bin" && sleep 0.1 && tail -c +34 "$data/marks.bin"; } >marks.bin &
+cp "$data/../stdout" ../expected
+judge
+wait
+rm marks.bin
+cp "$data/marks.bin" .
 
 # What it said on standard error where nothing took its text.
 unwritten() {

@@ -5,7 +5,7 @@ set -eu
 unset CDPATH
 cd "$(dirname "$0")/.."
 failed=0
-if LC_ALL=C.UTF-8 grep -nE '^.{101,}$' ./*.md docs/*.md NOTICE; then
+if LC_ALL=C.UTF-8 grep -nE '^.{101,}$' ./*.md docs/*.md NOTICE include/*.h; then
     echo "pages: these lines have more than 100 columns"
     failed=1
 fi

@@ -16,7 +16,7 @@ search search
 listing search_on search_on_place
 listing search_on_line search_on_circle search_on_cylinder
 listing search_on_plane_xy search_on_plane_yz search_on_plane_xz
-files sheet_of_file part_of marks_answer said_of
+files sheet_of_file part_length part_of marks_answer said_of
 grid_cells new
 cell_search search
 mesh_view new grid_cells search build

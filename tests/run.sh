@@ -52,6 +52,7 @@ tell 'a name that starts with -' 0 "$sample" '' "$root/run" -data
 tell 'a name that is -' 0 "$sample" '' "$root/run" -
 tell 'a name that is an option' 0 "$sample" '' "$root/run" -- --help
 tell 'an option by its path' 0 "$sample" '' "$root/run" ./-h
+tell 'no name after --' 0 "$sample" '' "$root/run" --
 tell 'a name that is --' 0 "$sample" '' "$root/run" -- --
 tell 'a name of two words' 0 "$sample" '' "$root/run" 'two words'
 tell 'a name with a quote' 0 "$sample" '' "$root/run" "it's"

@@ -1,4 +1,5 @@
-//! Document 01's 'Positions tried', answered by gemlab, in the document's order: what the program `positions` writes.
+//! Document 01's 'Positions tried', answered by gemlab, in the document's order, and after them root, truncation and
+//! rounding up at their edges, by the Rust operations that gemlab uses: what the program `positions` writes.
 //!
 //! Two lines are refusals that document 01 adds and gemlab has not; they are written here as the document has them.
 
@@ -137,5 +138,15 @@ pub fn text() -> Vec<u8> {
     // gemlab takes f64::MIN as side: from document 01
     say("one triangle, percentage 1", "refused 23".to_string());
     say("one triangle, default percentage", accepted(GridCells::new(&mesh, None, None, None, None)));
+
+    for (name, x) in [("2", 2.0f64), ("0", 0.0), ("-0", -0.0), ("-1", -1.0), ("infinity", f64::INFINITY)] {
+        say(&format!("root of {name}"), float(x.sqrt()));
+    }
+    for (name, x) in [("7.9375", 7.9375f64), ("-7.9375", -7.9375), ("infinity", f64::INFINITY), ("NaN", f64::NAN)] {
+        say(&format!("truncation of {name}"), (x as usize).to_string());
+    }
+    for (name, x) in [("2.5", 2.5f64), ("-2.5", -2.5), ("-0.5", -0.5), ("3", 3.0)] {
+        say(&format!("rounding up of {name}"), float(x.ceil()));
+    }
     out.into_bytes()
 }

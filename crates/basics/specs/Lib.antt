@@ -1,3 +1,4 @@
--- What every layer's definitions share: lists, and the refusals in their order.
+-- What every layer's definitions share: lists, the refusals in their order, and lent lists whose front is written.
 pub mod Lists
 pub mod Refusals
+pub mod Filled

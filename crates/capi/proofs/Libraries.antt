@@ -1,80 +1,64 @@
 -- What insertion and search tell to C, from what the calls below them ensure.
 -- Assumes nothing.
 use Prim.Native.Nat.{ℕ}
-use native.Mathlib.Omega.{arith}
-use mathlib.Core.Path.{_≡_, refl, sym, ap, _∙_, subst}
+use mathlib.Core.Path.{_≡_, sym, ap, _∙_, subst}
 use mathlib.Core.Option.{Option, none, some}
 use mathlib.Core.List.{List}
-use lib.ListN.{length}
 use lib.Ieee.{Float}
-use Rattle.basics.specs.Refusals.{Answer, refused, success, through, fault}
+use Rattle.basics.specs.Refusals.{Answer, refused, success, through}
 use Rattle.grid_search.specs.declared.GridSearch.{GridSearch}
 use Rattle.rows.specs.declared.Inserted.{Inserted}
-use Rattle.rows.specs.declared.Inserted.the-variants.{Stored, Refused}
-use Rattle.rows.specs.Library.{Library, library, table, write, Turn}
-use Rattle.rows.specs.Insert.{rowsWith, insertTests, settle, insertion, Gives}
+use Rattle.rows.specs.declared.Inserted.the-variants as insert
+use Rattle.table.specs.declared.ItemId.{ItemId}
+use Rattle.search.specs.declared.Found.{Found}
+use Rattle.search.specs.declared.Found.the-variants.{Id, Nothing, Refused}
+use Rattle.search.specs.Search.{searchAnswer, found}
+use Rattle.table.specs.Library.{Library, library}
+use Rattle.rows.specs.Insert.{insertion, Gives, usedAfter}
 use Rattle.capi.specs.Answers.{number, written}
 use Rattle.capi.specs.Libraries.{ToldTurn, flag, idAfter, ToldFound}
 
--- ---- the used count
+-- ---- an insertion, on the sheet as the code has it
 
-settle-stored : (o : Option ℕ) (a : ℕ) (new old : Library) (n : ℕ) → new .used ≡ a → success n ≡ settle o a new old .answer → n ≡ settle o a new old .library .used
-unfolding settle
-settle-stored none a new old n u e = let f : n ≡ a = cc in f ∙ sym u
-settle-stored (some m) a new old n u e = absurd (no e)
-  where
-    no : _≡_ {A = Answer ℕ} (success n) (refused m) → ⊥
-    no f = let z : _≡_ {A = ℕ} 0 1 = cc in omega arith
+module _ (l : Library) (i : ℕ) (x : List Float) {s s′ : GridSearch} (same : s′ ≡ s) {r : Inserted} {keys ids : List ℕ} {xs ys zs : List Float} (used : ℕ)
+    (g : Gives (insertion s′ l i x) r (library keys ids xs ys zs (usedAfter r used))) (n : ℕ) where
+  abbrev after : ℕ → Library
+  after = library keys ids xs ys zs
 
-settle-refused : (o : Option ℕ) (a : ℕ) (new old : Library) (n : ℕ) → refused n ≡ settle o a new old .answer → old .used ≡ settle o a new old .library .used
-unfolding settle
-settle-refused none a new old n e = absurd (no e)
-  where
-    no : _≡_ {A = Answer ℕ} (refused n) (success a) → ⊥
-    no f = let z : _≡_ {A = ℕ} 0 1 = cc in omega arith
-settle-refused (some m) a new old n e = refl
+  turn : {a : Inserted} → r ≡ a → Gives (insertion s l i x) a (after (usedAfter a used))
+  turn {a} e = subst (λ (u : GridSearch). Gives (insertion u l i x) a (after (usedAfter a used))) same (subst (λ (b : Inserted). Gives (insertion s′ l i x) b (after (usedAfter b used))) e g)
 
-module _ (s : GridSearch) (l : Library) (i : ℕ) (x : List Float) {n : ℕ} {keys ids : List ℕ} {xs ys zs : List Float} where
-  stored : Gives (insertion s l i x) (Stored n) keys ids xs ys zs → ToldTurn (insertion s l i x) 0 keys ids xs ys zs n
-  unfolding insertion write
-  stored g = record {
-    returned = ap number (g .answers);
-    keys-are = g .keys-are;
-    ids-are = g .ids-are;
-    xs-are = g .xs-are;
-    ys-are = g .ys-are;
-    zs-are = g .zs-are;
-    used-is = settle-stored (fault (insertTests s l i x)) (length (rowsWith s i x (table l))) (write (rowsWith s i x (table l)) l) l n refl (g .answers);
-  }
+  pub told-stored : r ≡ insert.Stored n → ToldTurn (insertion s l i x) 0 (after n)
+  told-stored e = let d = turn e in record { returned = ap number (d .answers); library-is = d .library-is }
 
-  turned-away : Gives (insertion s l i x) (Refused n) keys ids xs ys zs → ToldTurn (insertion s l i x) n keys ids xs ys zs (l .used)
-  unfolding insertion
-  turned-away g = record {
-    returned = ap number (g .answers);
-    keys-are = g .keys-are;
-    ids-are = g .ids-are;
-    xs-are = g .xs-are;
-    ys-are = g .ys-are;
-    zs-are = g .zs-are;
-    used-is = settle-refused (fault (insertTests s l i x)) (length (rowsWith s i x (table l))) (write (rowsWith s i x (table l)) l) l n (g .answers);
-  }
+  pub told-refused : r ≡ insert.Refused n → ToldTurn (insertion s l i x) n (after used)
+  told-refused e = let d = turn e in record { returned = ap number (d .answers); library-is = d .library-is }
 
-  -- the same of the sheet and the answer as the code has them
-  module _ {s′ : GridSearch} {r : Inserted} (e : s′ ≡ s) (g : Gives (insertion s′ l i x) r keys ids xs ys zs) where
-    pub told-stored : r ≡ Stored n → ToldTurn (insertion s l i x) 0 keys ids xs ys zs n
-    told-stored f = stored (subst (λ (a : Inserted). Gives (insertion s l i x) a keys ids xs ys zs) f (subst (λ (u : GridSearch). Gives (insertion u l i x) r keys ids xs ys zs) e g))
+-- ---- a search, for a mark or for a cell
 
-    pub told-refused : r ≡ Refused n → ToldTurn (insertion s l i x) n keys ids xs ys zs (l .used)
-    told-refused f = turned-away (subst (λ (a : Inserted). Gives (insertion s l i x) a keys ids xs ys zs) f (subst (λ (u : GridSearch). Gives (insertion u l i x) r keys ids xs ys zs) e g))
+module _ {a : Answer (Option ℕ)} (old id : ℕ) where
+  told : {b : Answer (Option ℕ)} → b ≡ a → ToldFound a (number b) old (written (through flag b) old) id (idAfter b id)
+  told e = record { returned = ap number e; found-is = ap (λ (c : Answer (Option ℕ)). written (through flag c) old) e; id-is = ap (λ (c : Answer (Option ℕ)). idAfter c id) e }
 
--- ---- a search
+  pub told-id : (i : ℕ) → success (some i) ≡ a → ToldFound a 0 old 1 id i
+  told-id i e = told e
 
-module _ {a : Answer (Option ℕ)} (found id : ℕ) where
-  pub told-id : (i : ℕ) → success (some i) ≡ a → ToldFound a 0 found 1 id i
-  told-id i e = record { returned = ap number e; found-is = ap (λ (b : Answer (Option ℕ)). written (through flag b) found) e; id-is = ap (λ (b : Answer (Option ℕ)). idAfter b id) e }
+  pub told-nothing : success none ≡ a → ToldFound a 0 old 0 id id
+  told-nothing e = told e
 
-  pub told-nothing : success none ≡ a → ToldFound a 0 found 0 id id
-  told-nothing e = record { returned = ap number e; found-is = ap (λ (b : Answer (Option ℕ)). written (through flag b) found) e; id-is = ap (λ (b : Answer (Option ℕ)). idAfter b id) e }
+  pub told-away : (n : ℕ) → refused n ≡ a → ToldFound a n old old id id
+  told-away n e = told e
 
-  pub told-away : (n : ℕ) → refused n ≡ a → ToldFound a n found found id id
-  told-away n e = record { returned = ap number e; found-is = ap (λ (b : Answer (Option ℕ)). written (through flag b) found) e; id-is = ap (λ (b : Answer (Option ℕ)). idAfter b id) e }
+-- for a mark, on the sheet as the code has it
+module _ (l : Library) (x : List Float) {s s′ : GridSearch} (same : s′ ≡ s) {r : Found} (g : found r ≡ searchAnswer s′ l x) (old id : ℕ) where
+  answered : {b : Found} → r ≡ b → found b ≡ searchAnswer s l x
+  answered e = sym (ap found e) ∙ g ∙ ap (λ (u : GridSearch). searchAnswer u l x) same
+
+  pub mark-found : (i : ItemId) → r ≡ Id i → ToldFound (searchAnswer s l x) 0 old 1 id (i .0)
+  mark-found i e = told-id old id (i .0) (answered e)
+
+  pub no-mark : r ≡ Nothing → ToldFound (searchAnswer s l x) 0 old 0 id id
+  no-mark e = told-nothing old id (answered e)
+
+  pub not-searched : (n : ℕ) → r ≡ Refused n → ToldFound (searchAnswer s l x) n old old id id
+  not-searched n e = told-away old id n (answered e)

@@ -3,21 +3,15 @@
 use Prim.Native.Nat.{ℕ}
 use mathlib.Core.Path.{_≡_}
 use mathlib.Core.Option.{Option, none, some}
-use mathlib.Core.List.{List}
-use lib.Ieee.{Float}
 use Rattle.basics.specs.Refusals.{Answer, refused, success, through}
-use Rattle.rows.specs.Library.{Turn}
+use Rattle.table.specs.Library.{Library}
+use Rattle.rows.specs.Insert.{Turn}
 use Rattle.capi.specs.Answers.{number, written}
 
--- an insertion: the five lists and the used count are those of the library that the call leaves
-pub record ToldTurn (t : Turn ℕ) (r : ℕ) (keys ids : List ℕ) (xs ys zs : List Float) (used : ℕ) : Type 0 where
+-- an insertion: the library at exit is the one that the call leaves
+pub record ToldTurn (t : Turn ℕ) (r : ℕ) (after : Library) : Type 0 where
   pub returned : r ≡ number (t .answer)
-  pub keys-are : keys ≡ t .library .keys
-  pub ids-are : ids ≡ t .library .ids
-  pub xs-are : xs ≡ t .library .xs
-  pub ys-are : ys ≡ t .library .ys
-  pub zs-are : zs ≡ t .library .zs
-  pub used-is : used ≡ t .library .used
+  pub library-is : after ≡ t .library
 
 -- whether something is found
 abbrev pub flag : Option ℕ → ℕ

@@ -1,5 +1,4 @@
 // The four distances.
-ghost use mathlib.Core.Path.{_≡_};
 ghost use Rattle.geometry.specs.Distances.{measured, pointPointAnswer, pointLineAnswer, pointCircleAnswer, pointCylinderAnswer};
 ghost use Rattle.capi.specs.Answers.{Told};
 use geometry::Measured;

@@ -1,6 +1,5 @@
 // A library of marks on a sheet: insertion and search.
-ghost use mathlib.Core.Path.{_≡_};
-ghost use Rattle.rows.specs.Library.{library};
+ghost use Rattle.table.specs.Library.{library};
 ghost use Rattle.rows.specs.Insert.{insertion};
 ghost use Rattle.search.specs.Search.{searchAnswer};
 ghost use Rattle.capi.specs.Sheets.{sheetOf};
@@ -27,7 +26,7 @@ pub extern "C" fn gemlab_grid_search_insert(
 ) -> u64
     ensures { λ r. ⌜ ToldTurn (insertion (sheetOf (now (numbers .entry)) (now (floats .entry)))
         (library (now (keys .entry)) (now (ids .entry)) (now (xs .entry)) (now (ys .entry)) (now (zs .entry)) (now (used .entry))) id (now (x .entry)))
-        r (now (keys .exit)) (now (ids .exit)) (now (xs .exit)) (now (ys .exit)) (now (zs .exit)) (now (used .exit)) ⌝ }
+        r (library (now (keys .exit)) (now (ids .exit)) (now (xs .exit)) (now (ys .exit)) (now (zs .exit)) (now (used .exit))) ⌝ }
 {
     let sheet = sheet_of(numbers, floats);
     let count = *used as usize;

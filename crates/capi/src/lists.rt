@@ -1,6 +1,6 @@
 // The listings.
 ghost use mathlib.Core.Path.{_≡_};
-ghost use Rattle.rows.specs.Library.{library};
+ghost use Rattle.table.specs.Library.{library};
 ghost use Rattle.listing.specs.Place.{askedOf};
 ghost use Rattle.listing.specs.Listing.{listing};
 ghost use Rattle.capi.specs.Sheets.{sheetOf};

@@ -1,2 +1,2 @@
--- What the program's functions say of the files that they read.
-pub mod Files
+-- The words of the program's contracts.
+pub mod Printed

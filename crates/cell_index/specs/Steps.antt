@@ -4,7 +4,7 @@ use Prim.Native.Nat.{ℕ, _≤_, _<_}
 use mathlib.Core.List.{List}
 use lib.ListN.{length, getD}
 use Rattle.mesh.specs.Mesh.{Mesh, cellCount, Whole}
-use Rattle.table.specs.Rows.{Ordered}
+use Rattle.table.specs.Posts.{Ordered}
 use Rattle.cell_rows.specs.Steps.{Keyed}
 use Rattle.grid_cells.specs.declared.GridCells.{GridCells}
 use Rattle.grid_cells.specs.Build.{IndexLists, containersOf}

@@ -11,7 +11,7 @@ ghost use Rattle.basics.specs.Refusals.{fault, answer};
 ghost use Rattle.geometry.specs.Position.{coords as axes, axisOf, dimension};
 ghost use Rattle.geometry.specs.Cells.{zetas as listed};
 ghost use Rattle.mesh.specs.Mesh.{meshOf, Whole};
-ghost use Rattle.table.specs.Rows.{Ordered};
+ghost use Rattle.table.specs.Posts.{Ordered};
 ghost use Rattle.cell_rows.specs.Filing.{cellKey};
 ghost use Rattle.cell_rows.specs.Steps.{Keyed};
 ghost use Rattle.grid_cells.specs.Build.{containersOf, indexLists};
@@ -126,8 +126,8 @@ fn container_rows(keys: &[u64], cells: &[u64], used: usize, key: u64) -> Span
     ensures { λ r. ⌜ Own (now (keys .entry)) (now (cells .entry)) used key r ⌝ }
 {
     Span {
-        from: table::first_of(keys, cells, used, key),
-        to: table::first_of(keys, cells, used, key + 1),
+        from: table::first_of(keys, used, key),
+        to: table::first_of(keys, used, key + 1),
     }
 }
 

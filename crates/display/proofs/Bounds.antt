@@ -21,7 +21,7 @@ use Rattle.table.specs.Rows.{Slot, slotAt, slotsOf}
 use Rattle.sorting.specs.Sorted.{distinct}
 use Rattle.text.specs.Text.{ascii, decimal, entryText, entries, listText}
 use Rattle.text.proofs.Laws.{decimal-20, list-length}
-use Rattle.display.specs.Display.{keysIn, idsIn, within, line, linesOf, named, summary, slotsText}
+use Rattle.display.specs.Display.{keysIn, idsIn, inContainer, line, linesOf, named, summary, slotsText}
 use Rattle.display.proofs.Texts.{line-length, named-length, whole-length, counts-length, at-most-three}
 use Rattle.display.proofs.Runs.{above, enter-above}
 
@@ -97,15 +97,15 @@ times-one v (x ∷ xs) e =
 -- how many rows these containers have
 unfoldable weigh : List Slot → List ℕ → ℕ
 weigh slots [] = 0
-weigh slots (k ∷ ks) = length (within k slots) + weigh slots ks
+weigh slots (k ∷ ks) = length (inContainer k slots) + weigh slots ks
 
 weigh-none : (ks : List ℕ) → weigh [] ks ≡ 0
-unfolding weigh within keep
+unfolding weigh inContainer keep
 weigh-none [] = refl
 weigh-none (k ∷ ks) = rw (weigh-none ks) (omega arith)
 
 weigh-more : (p : Slot) (slots : List Slot) (ks : List ℕ) → weigh (p ∷ slots) ks ≡ times (p .key) ks + weigh slots ks
-unfolding weigh within keep times
+unfolding weigh inContainer keep times
 weigh-more p slots [] = refl
 weigh-more p slots (k ∷ ks) =
     let rest = weigh-more p slots ks in
@@ -121,18 +121,18 @@ weigh-all (p ∷ slots) ks e = omega (arith, weigh-more p slots ks, times-one (p
 abbrev pub word : ℕ → Bool
 word n = ltb n (2 ^ 64)
 
-entry-length : (i n : ℕ) → n < 2 ^ 64 → length (entryText i n) ≤ 22
+entry-length : (i n : ℕ) → n < 2 ^ 64 → length (entryText (ascii ", ") i n) ≤ 22
 unfolding entryText
 entry-length zero n h = omega (arith, decimal-20 n h)
 entry-length (suc i) n h = omega (arith, decimal-20 n h)
 
-entries-length : (i : ℕ) (ns : List ℕ) → all word ns ≡ true → length (entries i ns) ≤ 22 * length ns
+entries-length : (i : ℕ) (ns : List ℕ) → all word ns ≡ true → length (entries (ascii ", ") i ns) ≤ 22 * length ns
 unfolding entries all
 entries-length i [] e = omega arith
 entries-length i (n ∷ ns) e =
     omega (
       arith,
-      length-append (entryText i n) (entries (suc i) ns),
+      length-append (entryText (ascii ", ") i n) (entries (ascii ", ") (suc i) ns),
       entry-length i n (ltb-true n (2 ^ 64) (and-left (word n) (all word ns) e)),
       entries-length (suc i) ns (and-right (word n) (all word ns) e),
     )
@@ -156,11 +156,11 @@ keys-words [] e = refl
 keys-words (p ∷ slots) e =
     both (and-left (word (p .key)) (word (p .id)) (and-left (words p) (all words slots) e)) (keys-words slots (and-right (words p) (all words slots) e))
 
-within-words : (k : ℕ) (slots : List Slot) → all words slots ≡ true → all words (within k slots) ≡ true
-unfolding within keep all
-within-words k [] e = refl
-within-words k (p ∷ slots) e =
-    let rest = within-words k slots (and-right (words p) (all words slots) e) in
+container-words : (k : ℕ) (slots : List Slot) → all words slots ≡ true → all words (inContainer k slots) ≡ true
+unfolding inContainer keep all
+container-words k [] e = refl
+container-words k (p ∷ slots) e =
+    let rest = container-words k slots (and-right (words p) (all words slots) e) in
     by-test (eqb (p .key) k) (λ f. rw f (both (and-left (words p) (all words slots) e) rest)) λ f. rw f rest
 
 -- the ids of some slots are at most as many
@@ -194,17 +194,17 @@ module _ (slots : List Slot) (good : all words slots ≡ true) where
   lines-bound (k ∷ ks) e =
       omega (
         arith,
-        length-append (line k (idsIn (within k slots))) (linesOf slots ks),
-        line-length k (idsIn (within k slots)),
+        length-append (line k (idsIn (inContainer k slots))) (linesOf slots ks),
+        line-length k (idsIn (inContainer k slots)),
         decimal-20 k (ltb-true k (2 ^ 64) (and-left (word k) (all word ks) e)),
-        ids-bound (within k slots) (within-words k slots good),
+        ids-bound (inContainer k slots) (container-words k slots good),
         lines-bound ks (and-right (word k) (all word ks) e),
       )
 
-  pub lines-most : length (linesOf slots (keysIn slots)) ≤ 47 * length slots
+  lines-most : length (linesOf slots (keysIn slots)) ≤ 47 * length slots
   lines-most = omega (arith, lines-bound (keysIn slots) (keys-in-words slots good), keys-length slots, weigh-all slots (keysIn slots) (keys-ascend slots))
 
-  pub summary-most : (divisions : List ℕ) → all word divisions ≡ true → length divisions ≤ 3 → length slots < 2 ^ 64
+  summary-most : (divisions : List ℕ) → all word divisions ≡ true → length divisions ≤ 3 → length slots < 2 ^ 64
       → length (summary slots divisions) ≤ 22 * length slots + 148
   unfolding summary
   summary-most divisions e h l =

@@ -2,7 +2,7 @@
 -- Assumes nothing.
 use Prim.Native.Nat.{ℕ, suc, _<_, zero-le, suc-le-suc}
 use mathlib.Core.Path.{_≡_, refl}
-use mathlib.Core.Bool.{Bool, true, false, not, _&&_}
+use mathlib.Core.Bool.{Bool, true, not}
 use mathlib.Core.List.{List, [], _∷_, _++_}
 use lib.ListN.{length, getD}
 use borrow.Author.Tests.{not-true}
@@ -14,11 +14,6 @@ module _ {A : Type 0} where
   unfolding all
   all-by p [] d h = refl
   all-by p (x ∷ l) d h = both (h 0 (suc-le-suc zero-le)) (all-by p l d λ i k. h (suc i) (suc-le-suc k))
-
-  pub all-back : (p : A → Bool) (a b : List A) → all p (a ++ b) ≡ true → all p b ≡ true
-  unfolding all
-  all-back p [] b e = e
-  all-back p (x ∷ a) b e = all-back p a b (and-right (p x) (all p (a ++ b)) e)
 
   pub keep-append : (p : A → Bool) (a b : List A) → keep p (a ++ b) ≡ keep p a ++ keep p b
   unfolding keep

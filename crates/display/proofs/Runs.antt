@@ -15,11 +15,12 @@ use Rattle.basics.proofs.Bools.{by-test, clash, both, and-left, and-right}
 use Rattle.basics.specs.Lists.{all, keep, tab, enter}
 use Rattle.basics.proofs.Lists.{length-tab, getD-tab, drop-tab, tab-take, map-tab, map-take, map-drop}
 use Rattle.display.proofs.Kept.{all-by, all-weaker, keep-append, keep-all, keep-none}
-use Rattle.table.specs.Rows.{Slot, slotAt, slotsOf, before, chain, sorted, Ordered}
+use Rattle.table.specs.Rows.{Slot, slotAt, slotsOf, before, chain, sorted}
+use Rattle.table.specs.Posts.{Ordered}
 use Rattle.table.proofs.Order.{chain-sorted, sorted-at}
 use Rattle.sorting.specs.Sorted.{distinct}
 use Rattle.display.specs.Posts.{Run}
-use Rattle.display.specs.Display.{keysIn, idsIn, within, line, linesOf}
+use Rattle.display.specs.Display.{keysIn, idsIn, inContainer, line, linesOf}
 
 -- ---- numbers ascending, once each
 
@@ -74,9 +75,9 @@ module _ (k : ℕ) (rest : List Slot) (higher : all (past-key k) rest ≡ true) 
       (enter-again k (keysIn rest))
 
   -- the container of the run's key has the run
-  within-run : (run : List Slot) → all (of-key k) run ≡ true → within k (run ++ rest) ≡ run
-  unfolding within
-  within-run run e =
+  container-run : (run : List Slot) → all (of-key k) run ≡ true → inContainer k (run ++ rest) ≡ run
+  unfolding inContainer
+  container-run run e =
       keep-append (of-key k) run rest
       ∙ rw (keep-all (of-key k) run e, keep-none (of-key k) rest (all-weaker (past-key k) (λ p. not (of-key k p)) rest other higher))
       (append-nil run)
@@ -85,9 +86,9 @@ module _ (k : ℕ) (rest : List Slot) (higher : all (past-key k) rest ≡ true) 
       other p e = rw (ne-eqb (p .key) k (λ f. absurd (omega (arith, ltb-true k (p .key) e))))
 
   -- another container has nothing of it
-  within-rest : (l : ℕ) (run : List Slot) → k < l → all (of-key k) run ≡ true → within l (run ++ rest) ≡ within l rest
-  unfolding within
-  within-rest l run h e =
+  container-rest : (l : ℕ) (run : List Slot) → k < l → all (of-key k) run ≡ true → inContainer l (run ++ rest) ≡ inContainer l rest
+  unfolding inContainer
+  container-rest l run h e =
       keep-append (of-key l) run rest
       ∙ ap (λ (m : List Slot). m ++ keep (of-key l) rest) (keep-none (of-key l) run (all-weaker (of-key k) (λ p. not (of-key l p)) run other e))
     where
@@ -98,7 +99,7 @@ module _ (k : ℕ) (rest : List Slot) (higher : all (past-key k) rest ≡ true) 
   unfolding linesOf all
   lines-rest run [] e f = refl
   lines-rest run (l ∷ ks) e f =
-      rw (within-rest l run (ltb-true k l (and-left (ltb k l) (all (above k) ks) f)) e, lines-rest run ks e (and-right (ltb k l) (all (above k) ks) f))
+      rw (container-rest l run (ltb-true k l (and-left (ltb k l) (all (above k) ks) f)) e, lines-rest run ks e (and-right (ltb k l) (all (above k) ks) f))
 
 ids-ascend : (p q : Slot) → before p q ≡ true → p .key ≡ q .key → ltb (p .id) (q .id) ≡ true
 unfolding before
@@ -121,7 +122,7 @@ ids-run k p (q ∷ ps) e c =
     rw (ids-run k q ps others (and-right (before p q) (chain q ps) c))
     (enter-first (p .id) (q .id) (map (λ (r : Slot). r .id) ps) (ids-ascend p q (and-left (before p q) (chain q ps) c) same))
 
-lines-cons : (slots : List Slot) (k : ℕ) (ks : List ℕ) → linesOf slots (k ∷ ks) ≡ line k (idsIn (within k slots)) ++ linesOf slots ks
+lines-cons : (slots : List Slot) (k : ℕ) (ks : List ℕ) → linesOf slots (k ∷ ks) ≡ line k (idsIn (inContainer k slots)) ++ linesOf slots ks
 unfolding linesOf
 lines-cons slots k ks = refl
 
@@ -141,7 +142,7 @@ module _ (k : ℕ) (p : Slot) (run rest : List Slot) (same : all (of-key k) (p �
       rw (
         keys-run k rest higher p run same,
         lines-cons ((p ∷ run) ++ rest) k (keysIn rest),
-        within-run k rest higher (p ∷ run) same,
+        container-run k rest higher (p ∷ run) same,
         ids-run k p run same c,
         lines-rest k rest higher (p ∷ run) (keysIn rest) same (above-keys k rest higher),
       )

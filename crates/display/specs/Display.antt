@@ -6,13 +6,14 @@ use mathlib.Core.List.{List, [], _∷_, _++_, map}
 use lib.Dec.{ltb, eqb}
 use lib.ListN.{length}
 use Rattle.basics.specs.Lists.{keep}
-use Rattle.display.specs.Lent.{Lent, lent}
+use Rattle.basics.specs.Filled.{Filled, fill}
 use Rattle.basics.specs.Refusals.{Test, refuse, fault, Answer, refused, success}
 use Rattle.grid.specs.Divisions.{counts}
 use Rattle.grid_search.specs.declared.GridSearch.{GridSearch}
 use Rattle.table.specs.declared.Row.{Row}
 use Rattle.table.specs.Rows.{Slot, slotOf}
-use Rattle.rows.specs.Library.{Library, table, libraryTests}
+use Rattle.table.specs.Library.{Library, table}
+use Rattle.rows.specs.Damage.{libraryTests}
 use Rattle.sorting.specs.Sorted.{distinct}
 use Rattle.text.specs.Text.{ascii, decimal, listText}
 use Rattle.display.specs.declared.Shown.{Shown}
@@ -31,9 +32,9 @@ unfolding distinct
 idsIn slots = distinct (map (λ (p : Slot). p .id) slots)
 
 -- those of one container
-unfoldable pub within : ℕ → List Slot → List Slot
+unfoldable pub inContainer : ℕ → List Slot → List Slot
 unfolding keep
-within k slots = keep (λ (p : Slot). eqb (p .key) k) slots
+inContainer k slots = keep (λ (p : Slot). eqb (p .key) k) slots
 
 -- ---- lines
 
@@ -44,9 +45,9 @@ line k ids = decimal k ++ (ascii ": " ++ (listText ids ++ ascii "\n"))
 
 -- the lines of these containers
 unfoldable pub linesOf : List Slot → List ℕ → List ℕ
-unfolding line idsIn within
+unfolding line idsIn inContainer
 linesOf slots [] = []
-linesOf slots (k ∷ ks) = line k (idsIn (within k slots)) ++ linesOf slots ks
+linesOf slots (k ∷ ks) = line k (idsIn (inContainer k slots)) ++ linesOf slots ks
 
 -- a line of the summary, as `nitem = 2`
 unfoldable pub named : List ℕ → List ℕ → List ℕ
@@ -71,11 +72,6 @@ unfoldable pub displayText : GridSearch → List Row → List ℕ
 unfolding slotsText
 displayText s rows = slotsText (counts (s .ndim) (s .ndiv)) (map slotOf rows)
 
--- what a program prints where a call is turned away, as `refused 13`
-unfoldable pub refusal : ℕ → List ℕ
-unfolding decimal
-refusal n = ascii "refused " ++ (decimal n ++ ascii "\n")
-
 -- ---- the call: 24, 13, and 14 where the buffer is shorter than the text
 
 unfoldable pub displayTests : GridSearch → Library → ℕ → List Test
@@ -83,15 +79,15 @@ unfolding libraryTests displayText table
 displayTests s l room = libraryTests s l ++ (refuse 14 (ltb room (length (displayText s (table l)))) ∷ [])
 
 -- the text's length with the text at the front of the buffer, or the refusal with the buffer as it was
-unfoldable pub showing : GridSearch → Library → List ℕ → Lent
-unfolding lent fault displayTests displayText table
-showing s l buffer = lent (fault (displayTests s l (length buffer))) (displayText s (table l)) buffer
+unfoldable pub showing : GridSearch → Library → List ℕ → Filled
+unfolding fill fault displayTests displayText table
+showing s l buffer = fill (fault (displayTests s l (length buffer))) (displayText s (table l)) buffer
 
 -- the answer's length or its number
 abbrev pub shown : Shown → Answer ℕ
 shown (Length n) = success n
 shown (Refused n) = refused n
 
-pub record Shows (w : Lent) (r : Shown) (buffer : List ℕ) : Type 0 where
+pub record Shows (w : Filled) (r : Shown) (buffer : List ℕ) : Type 0 where
   pub answers : shown r ≡ w .answer
   pub buffer-is : buffer ≡ w .list

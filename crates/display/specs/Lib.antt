@@ -1,5 +1,3 @@
 -- The words of the contract of the text of a library.
-pub mod Lent
 pub mod Display
 pub mod Posts
-pub mod Examples

@@ -2,16 +2,17 @@
 ghost use Prim.Native.Nat.{_+_, _^_, _≤_, _<_};
 ghost use mathlib.Core.Path.{_≡_};
 ghost use mathlib.Core.Bool.{true};
-ghost use mathlib.Core.List.{map, _++_};
+ghost use mathlib.Core.List.{map};
 ghost use lib.ListN.{length, take};
 ghost use Rattle.basics.specs.Lists.{all};
 ghost use Rattle.geometry.specs.Position.{dimension};
 ghost use Rattle.grid.specs.Divisions.{counts, division};
-ghost use Rattle.rows.specs.Library.{library};
-ghost use Rattle.table.specs.Rows.{slotsOf, Ordered};
-ghost use Rattle.sorting.specs.Posts.{within as entries, Below};
+ghost use Rattle.table.specs.Library.{library};
+ghost use Rattle.table.specs.Rows.{slotsOf};
+ghost use Rattle.table.specs.Posts.{Ordered};
+ghost use Rattle.sorting.specs.Posts.{markId as entries, Indices};
 ghost use Rattle.text.specs.Text.{ascii, decimal, listText, Put};
-ghost use Rattle.display.specs.Display.{keysIn, line, linesOf, named, summary, slotsText, refusal, showing, Shows};
+ghost use Rattle.display.specs.Display.{keysIn, line, linesOf, named, summary, slotsText, showing, Shows};
 ghost use Rattle.display.specs.Posts.{Run, Picked, Numbered, fitted};
 use grid::Divisions;
 use grid_search::GridSearch;
@@ -20,15 +21,6 @@ use grid_search::GridSearch;
 pub enum Shown {
     Length(usize),
     Refused(u64),
-}
-
-// The line that a program prints for a refusal, from the buffer's start on.
-pub fn put_refusal(buffer: &mut [u8], number: u64) -> usize
-    ensures { λ r. ⌜ Put (refusal number) (now (buffer .entry)) 0 (now (buffer .exit)) r ⌝ }
-{
-    let past_word = text::put_text(buffer, 0, b"refused ");
-    let past_number = text::put_decimal(buffer, past_word, number);
-    text::put_byte(buffer, past_number, b'\n')
 }
 
 // Past the last row of the container that row i is in.
@@ -98,14 +90,14 @@ fn id_at(ids: &[u64], j: u16) -> u64
 
 // The ids that the first n of order name, as a list.
 fn put_ids(buffer: &mut [u8], at: usize, ids: &[u64], order: &[u16], n: usize) -> usize
-    requires { ⌜ n ≤ length (now order) ⌝ ∗ ⌜ Below (length (now ids)) n (now order) ⌝ }
+    requires { ⌜ n ≤ length (now order) ⌝ ∗ ⌜ Indices (length (now ids)) n (now order) ⌝ }
     requires { ⌜ at + length (listText (map (entries (now ids)) (take n (now order)))) < 2 ^ 64 ⌝ }
     ensures { λ r. ⌜ Put (listText (map (entries (now (ids .entry))) (take n (now (order .entry))))) (now (buffer .entry)) at (now (buffer .exit)) r ⌝ }
 {
     let mut next = text::put_byte(buffer, at, b'[');
     let mut i = 0;
     while i < n {
-        next = text::put_entry(buffer, next, i, id_at(ids, order[i]));
+        next = text::put_entry(buffer, next, b", ", i, id_at(ids, order[i]));
         i += 1;
     }
     text::put_byte(buffer, next, b']')
@@ -124,7 +116,7 @@ fn put_number(buffer: &mut [u8], at: usize, name: &[u8], n: u64) -> usize
 
 // The line of all ids.
 fn put_ids_line(buffer: &mut [u8], at: usize, ids: &[u64], order: &[u16], n: usize) -> usize
-    requires { ⌜ n ≤ length (now order) ⌝ ∗ ⌜ Below (length (now ids)) n (now order) ⌝ }
+    requires { ⌜ n ≤ length (now order) ⌝ ∗ ⌜ Indices (length (now ids)) n (now order) ⌝ }
     requires { ⌜ at + length (named (ascii "ids") (listText (map (entries (now ids)) (take n (now order))))) < 2 ^ 64 ⌝ }
     ensures { λ r. ⌜ Put (named (ascii "ids") (listText (map (entries (now (ids .entry))) (take n (now (order .entry)))))) (now (buffer .entry)) at (now (buffer .exit)) r ⌝ }
 {

@@ -1,2 +1,2 @@
--- The worked examples, proved.
-pub mod Examples
+-- The examples, evaluated.
+pub mod Stated

@@ -1,4 +1,4 @@
--- The lines of document 01's 'Positions tried' that it marks with a star, each with what the definitions that the contracts cite give: one list, with one proof in proofs/Examples.antt.
+-- The lines of document 01's 'Positions tried' that it marks with a star, evaluated against the definitions that the contracts cite: one list, one proof.
 -- Assumes nothing.
 use Prim.Native.Nat.{ℕ}
 use mathlib.Core.Path.{_≡_}
@@ -22,8 +22,8 @@ use Rattle.grid_search.specs.declared.GivenF64.the-variants as float
 use Rattle.grid_search.specs.Sheet.{newSheet}
 use Rattle.grid_search.specs.Examples.{S, lowOfS, highOfS}
 use Rattle.table.specs.Rows.{keyIn}
-use Rattle.rows.specs.Library.{Library, Turn, table}
-use Rattle.rows.specs.Insert.{containerOf, insertion}
+use Rattle.table.specs.Library.{Library, table}
+use Rattle.rows.specs.Insert.{Turn, containerOf, insertion}
 use Rattle.search.specs.Search.{searchAnswer}
 
 -- what a line states: floats, numbers, a test's outcome, or a refusal
@@ -62,25 +62,25 @@ keysOf l = numbers (map keyIn (table l))
 
 -- ---- the floats of the lines
 
-abbrev half : Float
+abbrev pub half : Float
 half = fin false 1 (negsuc 0)
 
 -- 2.5, 3.5, 5.5
-abbrev twoAndHalf : Float
+abbrev pub twoAndHalf : Float
 twoAndHalf = fin false 5 (negsuc 0)
 
-abbrev threeAndHalf : Float
+abbrev pub threeAndHalf : Float
 threeAndHalf = fin false 7 (negsuc 0)
 
-abbrev fiveAndHalf : Float
+abbrev pub fiveAndHalf : Float
 fiveAndHalf = fin false 11 (negsuc 0)
 
 -- the next binary64 above 8: 8 + 2 ^ -49
-abbrev above8 : Float
+abbrev pub above8 : Float
 above8 = fin false 4503599627370497 (negsuc 48)
 
 -- 3 - 9 / 4096
-abbrev belowThree : Float
+abbrev pub belowThree : Float
 belowThree = fin false 12279 (negsuc 11)
 
 -- ---- on sheet S: corners (0, 0) and (8, 4), divisions 8, border 0, tolerance 1/512

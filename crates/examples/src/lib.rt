@@ -1,1 +1,1 @@
-// The worked examples of document 01 stand in specs/, their proof in proofs/. There is no code.
+// The worked examples of document 01 stand in specs/ and are evaluated in proofs/. There is no code.

@@ -1,2 +1,3 @@
--- What is read back from the bits of a signed number.
+-- Laws of what is read of files.
 pub mod Signed
+pub mod Parts

@@ -1,9 +1,9 @@
 -- A signed number is held by its bits, and what is read back from them is the number, where it fits.
 -- Assumes nothing.
-use Prim.Native.Nat.{ℕ, suc, _-_, _^_, _<_, zero-le}
+use Prim.Native.Nat.{suc, _-_, _^_, _<_, zero-le}
 use native.Mathlib.Omega.{arith}
 use mathlib.Core.Path.{_≡_, refl, sym, ap, ap₂, _∙_}
-use mathlib.Core.Bool.{Bool, true, false}
+use mathlib.Core.Bool.{Bool}
 use lib.Dec.{eqb}
 use lib.IntN.{ℤ, pos, negsuc}
 use lib.Signed.{leZ, nonNeg}
@@ -11,7 +11,7 @@ use borrow.Author.Tests.{le-leb, ne-eqb}
 use mir.Syntax.{w32, w64}
 use mir.Val.{toZ, ofZ, SFits}
 use mir.ValLaws.{toZ-ofZ}
-use Rattle.files.specs.Files.{isEnd, isWhole}
+use Rattle.files.specs.Files.{isEnd, allCame}
 
 pub opened-test : (z : ℤ) → SFits w32 z → leZ (pos 0) (toZ w32 (ofZ w32 z)) ≡ nonNeg z
 opened-test z f = ap (leZ (pos 0)) (toZ-ofZ w32 z f) ∙ not-below z
@@ -26,5 +26,5 @@ end-test (pos n) f = refl
 end-test (negsuc n) f = ne-eqb (2 ^ 64 - suc n) 0 (λ e. let h : n < 2 ^ 63 = f .sfits in omega arith)
 
 -- the numbers that a callee is handed
-pub whole-test : (opened after : ℤ) → SFits w32 opened → SFits w64 after → {b c : Bool} → b ≡ isWhole (toZ w32 (ofZ w32 opened)) (toZ w64 (ofZ w64 after)) → b ≡ c → isWhole opened after ≡ c
-whole-test opened after f g e d = ap₂ isWhole (sym (toZ-ofZ w32 opened f)) (sym (toZ-ofZ w64 after g)) ∙ sym e ∙ d
+pub whole-test : (opened after : ℤ) → SFits w32 opened → SFits w64 after → {b c : Bool} → b ≡ allCame (toZ w32 (ofZ w32 opened)) (toZ w64 (ofZ w64 after)) → b ≡ c → allCame opened after ≡ c
+whole-test opened after f g e d = ap₂ allCame (sym (toZ-ofZ w32 opened f)) (sym (toZ-ofZ w64 after g)) ∙ sym e ∙ d

@@ -1,7 +1,7 @@
 -- What a program knows of a file once it is read: what opening it answered, the bytes that came, and what reading on after them
 -- answered. From these alone it is decided what the file holds.
 -- Assumes nothing.
-use Prim.Native.Nat.{ℕ}
+use Prim.Native.Nat.{ℕ, _*_, _/_}
 use mathlib.Core.Bool.{Bool, false, cond, _&&_}
 use mathlib.Core.Option.{Option, none, some}
 use mathlib.Core.List.{List}
@@ -19,14 +19,18 @@ isEnd (pos n) = eqb n 0
 isEnd (negsuc n) = false
 
 -- the bytes that came are all of the file: opening it answered no number below 0, and it ends after them
-unfoldable pub isWhole : ℤ → ℤ → Bool
+unfoldable pub allCame : ℤ → ℤ → Bool
 unfolding isEnd
-isWhole opened after = nonNeg opened && isEnd after
+allCame opened after = nonNeg opened && isEnd after
 
 -- what the file holds; none: it is missing, cannot be read, or does not end where it has to
 unfoldable pub content : ℤ → List ℕ → ℤ → Option (List ℕ)
-unfolding isWhole
-content opened bytes after = cond (isWhole opened after) (some bytes) none
+unfolding allCame
+content opened bytes after = cond (allCame opened after) (some bytes) none
+
+-- how many bytes are asked for at a time: whole records, as many as 65,536 bytes hold
+unfoldable pub partLength : ℕ → ℕ
+partLength width = 65536 / width * width
 
 -- what comes after a part of the marks that gave this answer. A part of fewer bytes than were asked for is the last.
 unfoldable pub partOf : ℕ → ℕ → Answer ℕ → Part
@@ -35,8 +39,8 @@ partOf came asked (success rows) = cond (ltb came asked) (Last rows) (More rows)
 
 -- the answer to a file whose marks were all taken: they have to be all of the file
 unfoldable pub marksAnswer : ℤ → ℤ → ℕ → Answer ℕ
-unfolding isWhole
-marksAnswer opened after rows = cond (isWhole opened after) (success rows) (refused 13)
+unfolding allCame
+marksAnswer opened after rows = cond (allCame opened after) (success rows) (refused 13)
 
 -- how much of a complaint is said: all of it where the text was not written whole, and else nothing
 unfoldable pub said : Bool → List ℕ → ℕ

@@ -1,2 +1,3 @@
--- What a program decides of its files, by what the calls on them answered.
+-- The words of the contracts of files: what is decided of one, and what is known of one that was read.
 pub mod Files
+pub mod Read

@@ -1,14 +1,23 @@
-// What a program decides of its files, by what the calls on them answered: a program only makes the calls and hands their answers
-// over. `opened` is what opening a file answered, below 0 where it cannot be opened; `after` is what reading on after the bytes that
+// Files that a program reads, and text that it writes. What a file holds is decided by what the calls on it answered, each
+// decision in a function of its own with an exact contract; so a call is made whatever the one before it answered: where a file
+// cannot be opened, reading it fails too, and that is handed over.
+//
+// `opened` is what opening a file answered, below 0 where it cannot be opened; `after` is what reading on after the bytes that
 // came answered: 0 at the end, the number of bytes where more follow, below 0 where it fails.
-ghost use Prim.Native.Nat.{_≤_};
+ghost use Prim.Native.Nat.{_≤_, _<_};
 ghost use mathlib.Core.Path.{_≡_};
+ghost use mathlib.Core.Bool.{true};
 ghost use lib.ListN.{length, take};
 ghost use Rattle.grid_search.specs.Sheet.{made};
+ghost use Rattle.table.specs.Library.{library};
 ghost use Rattle.rows.specs.Insert.{inserted};
 ghost use Rattle.loading.specs.Loading.{sheetIn};
-ghost use Rattle.files.specs.Files.{isWhole, content, partOf, marksAnswer, said};
+ghost use Rattle.files.specs.Files.{allCame, content, partLength, partOf, marksAnswer, said};
+ghost use Rattle.files.specs.Read.{SheetRead, PartRead, MarksRead};
+use grid_search::GridSearch;
 use grid_search::Made;
+use libc::STDERR_FILENO;
+use libc::STDOUT_FILENO;
 use rows::Inserted;
 
 // What comes after a part of the marks: more of them, with this number of rows in use; the end of the file, likewise; or nothing,
@@ -20,8 +29,8 @@ pub enum Part {
 }
 
 // Whether the bytes that came are all of the file.
-fn is_whole(opened: i32, after: isize) -> bool
-    ensures { λ r. ⌜ r ≡ isWhole opened after ⌝ }
+fn all_came(opened: i32, after: isize) -> bool
+    ensures { λ r. ⌜ r ≡ allCame opened after ⌝ }
 {
     (opened >= 0) & (after == 0)
 }
@@ -30,10 +39,17 @@ fn is_whole(opened: i32, after: isize) -> bool
 pub fn sheet_of_file(opened: i32, bytes: &[u8], after: isize) -> Made
     ensures { λ r. ⌜ made r ≡ sheetIn (content opened (now (bytes .entry)) after) ⌝ }
 {
-    if !is_whole(opened, after) {
+    if !all_came(opened, after) {
         return Made::Refused(13);
     }
     loading::sheet_of_records(bytes)
+}
+
+// How many bytes are asked for at a time: whole records of this width, as many as 65,536 bytes hold.
+pub fn part_length(width: usize) -> usize
+    ensures { λ r. ⌜ r ≡ partLength width ⌝ ∗ ⌜ r ≤ 65536 ⌝ }
+{
+    if width == 0 { 0 } else { 65536 / width * width }
 }
 
 // What comes after a part of the marks that was inserted with this answer: `came` bytes, of `asked` that were asked for.
@@ -56,7 +72,7 @@ pub fn part_of(came: usize, asked: usize, answer: Inserted) -> Part
 pub fn marks_answer(opened: i32, after: isize, rows: usize) -> Inserted
     ensures { λ r. ⌜ inserted r ≡ marksAnswer opened after rows ⌝ }
 {
-    if !is_whole(opened, after) {
+    if !all_came(opened, after) {
         return Inserted::Refused(13);
     }
     Inserted::Stored(rows)
@@ -68,4 +84,117 @@ pub fn said_of(written: bool, line: &[u8]) -> usize
     ensures { λ r. ⌜ (r ≤ length (now (line .entry))) × (r ≡ length (take r (now (line .entry)))) ⌝ }
 {
     if written { 0 } else { line.len() }
+}
+
+// What reading on answers.
+fn read_on(fd: i32) -> isize {
+    let mut byte = [0u8; 1];
+    libc::read(fd, &mut byte)
+}
+
+// The sheet of the file of this name: two records.
+pub fn read_sheet(name: &[u8]) -> Made
+    ensures { λ r. ⌜ SheetRead r ⌝ }
+{
+    let fd = os::open_read(name);
+    let mut bytes = [0u8; 64];
+    let n = io::read_full(fd, &mut bytes);
+    let after = read_on(fd);
+    libc::close(fd);
+    sheet_of_file(fd, &bytes[..n], after)
+}
+
+// Inserts the marks of the next records of a file.
+fn insert_part(
+    fd: i32,
+    width: usize,
+    sheet: GridSearch,
+    keys: &mut [u64; 1024],
+    ids: &mut [u64; 1024],
+    xs: &mut [f64; 1024],
+    ys: &mut [f64; 1024],
+    zs: &mut [f64; 1024],
+    used: usize,
+) -> Part
+    ensures { λ r. ⌜ PartRead width sheet (library (now (keys .entry)) (now (ids .entry)) (now (xs .entry)) (now (ys .entry)) (now (zs .entry)) used)
+        r (library (now (keys .exit)) (now (ids .exit)) (now (xs .exit)) (now (ys .exit)) (now (zs .exit))) ⌝ }
+{
+    let mut bytes = io::large_buffer();
+    let asked = part_length(width);
+    let n = io::read_full(fd, &mut bytes[..asked]);
+    let answer = loading::insert_records(sheet, keys, ids, xs, ys, zs, used, &bytes[..n], width);
+    part_of(n, asked, answer)
+}
+
+// Inserts the marks of an open file part by part. A proved loop has to end, and nothing says that a file does: so the loop
+// counts its turns down, from a number that no file uses up.
+fn insert_parts(
+    fd: i32,
+    width: usize,
+    sheet: GridSearch,
+    keys: &mut [u64; 1024],
+    ids: &mut [u64; 1024],
+    xs: &mut [f64; 1024],
+    ys: &mut [f64; 1024],
+    zs: &mut [f64; 1024],
+) -> Inserted
+    requires { ⌜ 0 < width ⌝ }
+    ensures { λ r. ⌜ MarksRead width sheet (library (now (keys .entry)) (now (ids .entry)) (now (xs .entry)) (now (ys .entry)) (now (zs .entry)) 0)
+        r (library (now (keys .exit)) (now (ids .exit)) (now (xs .exit)) (now (ys .exit)) (now (zs .exit))) ⌝ }
+{
+    let mut used = 0;
+    let mut turns = u64::MAX;
+    while turns > 0 {
+        let part = insert_part(fd, width, sheet, keys, ids, xs, ys, zs, used);
+        match part {
+            Part::More(rows) => used = rows,
+            Part::Last(rows) => {
+                let after = read_on(fd);
+                return marks_answer(fd, after, rows);
+            }
+            Part::Refused(number) => return Inserted::Refused(number),
+        }
+        turns -= 1;
+    }
+    Inserted::Refused(13)
+}
+
+// Inserts the marks of the file of this name, whose records have this width, into a library with no row in use. 13 where no
+// record of that width fits into a part.
+pub fn insert_file(
+    name: &[u8],
+    width: usize,
+    sheet: GridSearch,
+    keys: &mut [u64; 1024],
+    ids: &mut [u64; 1024],
+    xs: &mut [f64; 1024],
+    ys: &mut [f64; 1024],
+    zs: &mut [f64; 1024],
+) -> Inserted
+    ensures { λ r. ⌜ MarksRead width sheet (library (now (keys .entry)) (now (ids .entry)) (now (xs .entry)) (now (ys .entry)) (now (zs .entry)) 0)
+        r (library (now (keys .exit)) (now (ids .exit)) (now (xs .exit)) (now (ys .exit)) (now (zs .exit))) ⌝ }
+{
+    if part_length(width) == 0 {
+        return Inserted::Refused(13);
+    }
+    let fd = os::open_read(name);
+    let answer = insert_parts(fd, width, sheet, keys, ids, xs, ys, zs);
+    libc::close(fd);
+    answer
+}
+
+// Writes a part of a text on standard output, unless an earlier part was not written whole. Answers whether all were.
+pub fn write_part(earlier: bool, text: &[u8]) -> bool
+    ensures { λ r. ⌜ (r ≡ true → earlier ≡ true) ⌝ }
+{
+    if !earlier {
+        return false;
+    }
+    io::write_all(STDOUT_FILENO, text)
+}
+
+// Says on standard error where a text was not written whole.
+pub fn complain(written: bool, line: &[u8]) {
+    let n = said_of(written, line);
+    io::write_all(STDERR_FILENO, &line[..n]);
 }

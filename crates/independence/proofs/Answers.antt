@@ -12,23 +12,24 @@ use lib.ListN.{length}
 use lib.Ieee.{Float}
 use borrow.Author.Tests.{eqb-true, eq-eqb, leb-true, leb-false, le-ltb}
 use Rattle.basics.proofs.Bools.{by-test, clash, both, and-both, or-either, or-true}
-use Rattle.basics.specs.Lists.{all, any, has, over}
+use Rattle.basics.specs.Lists.{all, has, over}
 use Rattle.basics.specs.Refusals.{Test, refuse, fault, refused, success, answer}
 use Rattle.basics.proofs.Refusals.{fault-left, fault-right, fault-stop}
 use Rattle.grid_search.specs.declared.GridSearch.{GridSearch}
 use Rattle.table.specs.declared.Row.{Row}
 use Rattle.table.specs.Rows.{idIn}
-use Rattle.rows.specs.Library.{Library, table, libraryTests}
-use Rattle.search.specs.Search.{nearRows, lowest, searchTests, searchAnswer}
+use Rattle.table.specs.Library.{Library, table}
+use Rattle.rows.specs.Damage.{libraryTests}
+use Rattle.search.specs.Search.{nearRows, lowest, chosen, searchTests, searchAnswer}
 use Rattle.listing.specs.declared.Filter.{Filter}
 use Rattle.sorting.specs.Ascent.{ascending}
 use Rattle.listing.specs.Place.{Asked, isOn, placeTests}
 use Rattle.listing.specs.Listing.{Listing, idsOn, onTests, listingTests, listOut, listing}
 use Rattle.independence.specs.Run.{isNone}
-use Rattle.independence.specs.Queries.{pass, holds, near, on}
+use Rattle.independence.specs.Queries.{pass, near, on}
 use Rattle.independence.specs.Claims.{Finding, Writing}
-use Rattle.independence.proofs.Lists.{used-length}
-use Rattle.independence.proofs.Ids.{ids-ascend, ids-no-more}
+use Rattle.table.proofs.Libraries.{length-table}
+use Rattle.independence.proofs.Ids.{holds, ids-ascend, ids-no-more}
 use Rattle.independence.proofs.Damage.{clean, clean-fault}
 
 -- ---- the lowest id
@@ -47,7 +48,7 @@ unfolding lowest
 least-of r rows j e = rw e
 
 held-in : (i : ℕ) (r : Row) (rows : List Row) → holds i (r ∷ rows) ≡ true → (idIn r ≡ i) ⊎ (holds i rows ≡ true)
-unfolding holds any
+unfolding has
 held-in i r rows h = go (or-either (eqb (idIn r) i) (holds i rows) h)
   where
     go : (eqb (idIn r) i ≡ true) ⊎ (holds i rows ≡ true) → (idIn r ≡ i) ⊎ (holds i rows ≡ true)
@@ -55,11 +56,11 @@ held-in i r rows h = go (or-either (eqb (idIn r) i) (holds i rows) h)
     go (inr e) = inr e
 
 held-first : (r : Row) (rows : List Row) → holds (idIn r) (r ∷ rows) ≡ true
-unfolding holds any
+unfolding has
 held-first r rows = rw (eq-eqb (idIn r) (idIn r) refl)
 
 held-rest : (i : ℕ) (r : Row) (rows : List Row) → holds i rows ≡ true → holds i (r ∷ rows) ≡ true
-unfolding holds any
+unfolding has
 held-rest i r rows h = or-true (eqb (idIn r) i) h
 
 one-row : (r : Row) (rows : List Row) → ((i : ℕ) → holds i rows ≡ false) → (holds (idIn r) (r ∷ rows) ≡ true) × ((i : ℕ) → holds i (r ∷ rows) ≡ true → idIn r ≤ i)
@@ -73,7 +74,7 @@ lower-row r rows j h d = (
 )
 
 lowest-is : (rows : List Row) → Lowest rows (lowest rows)
-unfolding Lowest lowest holds any
+unfolding Lowest lowest has
 lowest-is [] = λ i. refl
 lowest-is (r ∷ rows) = go (lowest rows) refl (lowest-is rows)
   where
@@ -84,7 +85,7 @@ lowest-is (r ∷ rows) = go (lowest rows) refl (lowest-is rows)
 -- ---- search
 
 search-is : (s : GridSearch) (l : Library) (x : List Float) → searchAnswer s l x ≡ answer (fault (searchTests s l x)) (lowest (nearRows s x (table l)))
-unfolding searchAnswer
+unfolding searchAnswer chosen
 search-is s l x = refl
 
 near-is : (s : GridSearch) (l : Library) (x : List Float) (i : ℕ) → near s l x i ≡ (pass (searchTests s l x) && holds i (nearRows s x (table l)))
@@ -202,7 +203,7 @@ module _ (s : GridSearch) (l : Library) (p : Asked) (f : Filter) (lent : List �
 
   listed-no-more : length (idsOn s l p f) ≤ l .used
   unfolding idsOn
-  listed-no-more = omega (arith, ids-no-more (isOn s p f) (table l), used-length l)
+  listed-no-more = omega (arith, ids-no-more (isOn s p f) (table l), length-table l)
 
   no-14 : clean short (onTests s l p f) ≡ true
   unfolding clean all short onTests libraryTests placeTests

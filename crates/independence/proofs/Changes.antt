@@ -3,91 +3,77 @@
 use Prim.Native.Nat.{ℕ}
 use native.Mathlib.Omega.{arith}
 use mathlib.Core.Path.{_≡_, refl, sym, _∙_, ap, ap₂}
-use mathlib.Core.Bool.{Bool, true, false, not, _&&_}
+use mathlib.Core.Bool.{true, false, not}
 use mathlib.Core.Option.{Option, none, some}
 use mathlib.Core.List.{List, [], _∷_, _++_, map}
-use lib.Dec.{ltb, eqb}
+use lib.Dec.{eqb}
 use lib.ListN.{length}
 use lib.Ieee.{Float}
-use borrow.Author.Tests.{leb-true, le-leb, eqb-true, not-false}
-use Rattle.basics.proofs.Bools.{both, and-both}
-use Rattle.basics.specs.Lists.{all}
+use borrow.Author.Tests.{leb-true, le-leb}
 use Rattle.basics.specs.Refusals.{Test, refuse, fault}
-use Rattle.basics.proofs.Refusals.{unrefused, passed, fault-left, fault-right}
+use Rattle.basics.proofs.Refusals.{passed, fault-left, fault-right}
 use Rattle.geometry.specs.Position.{positionOf}
-use Rattle.grid.specs.Divisions.{counts}
-use Rattle.grid.specs.Containers.{containers}
 use Rattle.grid_search.specs.declared.GridSearch.{GridSearch}
 use Rattle.table.specs.declared.Row.{Row}
 use Rattle.table.specs.Rows.{slotOf, sorted, own}
-use Rattle.table.proofs.All.{sorted-all}
-use Rattle.table.proofs.Ids.{all-putIn, length-own, other-putIn, own-putIn}
-use Rattle.rows.specs.Library.{Library, table, write, Space, space, tooLong, fits, roomy, goodRow, sound, libraryTests, Turn}
-use Rattle.rows.proofs.Check.{Whole, together}
-use Rattle.rows.specs.Insert.{points, targets, rowsWith, positionTests, roomTests, settle, insertion}
-use Rattle.independence.specs.Run.{Change, insert, change, step, refusalIn, refusal}
+use Rattle.table.specs.Library.{Library, table, write, Space, space, fits, roomy}
+use Rattle.table.proofs.Ids.{length-own, other-putIn, own-putIn}
+use Rattle.table.proofs.Libraries.{table-write}
+use Rattle.rows.specs.Damage.{libraryTests}
+use Rattle.rows.specs.Insert.{Turn, points, targets, rowsWith, positionTests, roomTests, insertTests, settle, insertion}
+use Rattle.rows.proofs.Check.{whole}
+use Rattle.rows.proofs.Kept.{inserted-order, accepted-position, accepted-room, accepted-space, accepted-passes}
+use Rattle.independence.specs.Run.{Change, insert, change, changing, step, refusalIn, refusal}
 use Rattle.independence.specs.Histories.{whose, effect}
-use Rattle.independence.proofs.Lists.{table-write, write-used, space-write}
-use Rattle.independence.proofs.Keys.{keys-below, position-good}
 
--- ---- a change's own tests, past 24 and 13, and the library that it leaves where none fails
+-- ---- a change's own tests, past 24 and 13, and what it answers and leaves where none fails: a clause for each kind of change
 
 unfoldable pub ownTests : GridSearch → Library → Change → List Test
 ownTests s l (insert i x) = positionTests s x (points s x) ++ roomTests l (rowsWith s i x (table l))
 
+unfoldable pub counting : GridSearch → Change → List Row → ℕ
+counting s (insert i x) rows = length (rowsWith s i x rows)
+
+unfoldable pub changed : GridSearch → Library → Change → Library
+changed s l (insert i x) = write (rowsWith s i x (table l)) l
+
 unfoldable pub changeTests : GridSearch → Library → Change → List Test
 changeTests s l c = libraryTests s l ++ ownTests s l c
 
-unfoldable pub changed : GridSearch → Library → Change → Library
-changed s l c = write (effect s c (table l)) l
-
--- ---- insertion
-
-all-and : (p : ℕ → Bool) (g : Bool) (ks : List ℕ) → g ≡ true → all p ks ≡ true → all (λ (k : ℕ). p k && g) ks ≡ true
-unfolding all
-all-and p g [] h a = refl
-all-and p g (k ∷ ks) h a = let d = and-both (p k) (all p ks) a in both (both (d .0) h) (all-and p g ks h (d .1))
-
-module _ (s : GridSearch) (l : Library) (i : ℕ) (x : List Float) (w : Whole s l) (q : fault (ownTests s l (insert i x)) ≡ none) where
-  position : fault (positionTests s x (points s x)) ≡ none
-  unfolding ownTests
-  position = fault-left _ _ q
-
-  inserted-room : roomy (space l) (rowsWith s i x (table l)) ≡ true
-  unfolding ownTests roomTests
-  inserted-room = not-false _ (unrefused (roomTests l (rowsWith s i x (table l))) (sym (fault-right _ _ position) ∙ q) .0)
-
-  inserted-good : all (goodRow s) (rowsWith s i x (table l)) ≡ true
-  unfolding rowsWith goodRow targets positionTests
-  inserted-good =
-      let p = unrefused (positionTests s x (points s x)) position in
-      let a : length x ≡ s .ndim = eqb-true _ _ (not-false _ (p .0)) in
-      let m = position-good s (w .sheet) x a (not-false _ (p .1 .0)) in
-      all-putIn (goodRow s) i (positionOf x) (targets s x) (table l)
-      (all-and (λ (k : ℕ). ltb k (containers (counts (s .ndim) (s .ndiv)))) _ (targets s x) m (keys-below s (w .sheet) (points s x) (p .1 .1 .1 .0)))
-      (w .rows)
+-- the tests of an insertion are those that its function is proved by
+insert-tests : (s : GridSearch) (l : Library) (i : ℕ) (x : List Float) {o : Option ℕ} → fault (changeTests s l (insert i x)) ≡ o → fault (insertTests s l i x) ≡ o
+unfolding changeTests ownTests insertTests
+insert-tests s l i x e = e
 
 -- ---- one clause for each kind of change
 
-pub insertion-is : (s : GridSearch) (l : Library) (i : ℕ) (x : List Float)
-    → insertion s l i x ≡ settle (fault (changeTests s l (insert i x))) (length (rowsWith s i x (table l))) (write (rowsWith s i x (table l)) l) l
-unfolding insertion changeTests ownTests
-insertion-is s l i x = refl
+-- the tests decide between what the change leaves and what was there
+pub changing-is : (s : GridSearch) (l : Library) (c : Change) → changing s l c ≡ settle (fault (changeTests s l c)) (counting s c (table l)) (changed s l c) l
+unfolding changing insertion changeTests ownTests counting changed
+changing-is s l (insert i x) = refl
 
-insertion-by : (s : GridSearch) (l : Library) (i : ℕ) (x : List Float) (o : Option ℕ) → fault (changeTests s l (insert i x)) ≡ o
-    → insertion s l i x ≡ settle o (length (rowsWith s i x (table l))) (write (rowsWith s i x (table l)) l) l
-insertion-by s l i x o e = insertion-is s l i x ∙ ap (λ (o : Option ℕ). settle o (length (rowsWith s i x (table l))) (write (rowsWith s i x (table l)) l) l) e
+-- and they look at the space and the rows of a library alone
+pub same-own : (s : GridSearch) (l m : Library) → space l ≡ space m → table l ≡ table m → (c : Change) → ownTests s l c ≡ ownTests s m c
+unfolding ownTests roomTests
+same-own s l m z t (insert i x) = ap₂ (λ (u : Space) (rows : List Row). positionTests s x (points s x) ++ (refuse 12 (not (roomy u (rowsWith s i x rows))) ∷ [])) z t
 
--- what `step` does: the tests decide between the library that the change leaves and the one that was there
-pub step-done : (s : GridSearch) (l : Library) (c : Change) → fault (changeTests s l c) ≡ none
-    → (step s l (change c) .library ≡ changed s l c) × (refusal (step s l (change c) .reply) ≡ none)
-unfolding step refusal changed effect settle
-step-done s l (insert i x) e = let d = insertion-by s l i x none e in (ap (λ (t : Turn ℕ). t .library) d, ap (λ (t : Turn ℕ). refusalIn (t .answer)) d)
+-- the rows that it leaves are those of its effect
+pub changed-table : (s : GridSearch) (l : Library) (c : Change) → table (changed s l c) ≡ effect s c (table l)
+unfolding changed effect
+changed-table s l (insert i x) = table-write _ l
 
-pub step-refused : (s : GridSearch) (l : Library) (c : Change) (n : ℕ) → fault (changeTests s l c) ≡ some n
-    → (step s l (change c) .library ≡ l) × (refusal (step s l (change c) .reply) ≡ some n)
-unfolding step refusal settle
-step-refused s l (insert i x) n e = let d = insertion-by s l i x (some n) e in (ap (λ (t : Turn ℕ). t .library) d, ap (λ (t : Turn ℕ). refusalIn (t .answer)) d)
+-- it leaves the space as it was, and a library that passes 24 and 13
+pub changed-space : (s : GridSearch) (l : Library) (c : Change) → fault (changeTests s l c) ≡ none → space (changed s l c) ≡ space l
+unfolding changed
+changed-space s l (insert i x) q = accepted-space s l i x (insert-tests s l i x q)
+
+pub changed-passes : (s : GridSearch) (l : Library) (c : Change) → fault (changeTests s l c) ≡ none → fault (libraryTests s (changed s l c)) ≡ none
+unfolding changed
+changed-passes s l (insert i x) q = accepted-passes s l i x (insert-tests s l i x q)
+
+pub effect-order : (s : GridSearch) (c : Change) (rows : List Row) → sorted (map slotOf rows) ≡ true → sorted (map slotOf (effect s c rows)) ≡ true
+unfolding effect
+effect-order s (insert i x) rows o = inserted-order s i x rows o
 
 module _ (s : GridSearch) (i : ℕ) where
   -- a change of another id leaves the rows of i
@@ -113,75 +99,43 @@ module _ (s : GridSearch) (i : ℕ) where
       fits-own [] e = refl
       fits-own (n ∷ ns) e = le-leb _ n (omega (arith, leb-true (length rows) n e, length-own i rows))
 
-  -- a change of i that its own tests let pass, they let pass where the rows of i are alone, in the same space
-  own-too : (l l′ : Library) (c : Change) → eqb (whose c) i ≡ true → Whole s l → space l ≡ space l′ → own i (table l) ≡ table l′
-      → fault (ownTests s l c) ≡ none → fault (ownTests s l′ c) ≡ none
+  -- a change of i that a library accepts, its own tests let pass where the rows of i are alone, in the same space
+  own-too : (l l′ : Library) (c : Change) → eqb (whose c) i ≡ true → space l ≡ space l′ → own i (table l) ≡ table l′ → fault (changeTests s l c) ≡ none → fault (ownTests s l′ c) ≡ none
   unfolding whose ownTests roomTests
-  own-too l l′ (insert j x) e w z r q =
-      fault-right (positionTests s x (points s x)) (roomTests l′ (rowsWith s j x (table l′))) (position s l j x w q)
+  own-too l l′ (insert j x) e z r q =
+      let k = insert-tests s l j x q in
+      let o : sorted (map slotOf (table l)) ≡ true = whole s l (fit-insert q) .order in
+      fault-right (positionTests s x (points s x)) (roomTests l′ (rowsWith s j x (table l′))) (accepted-position s l j x k)
       ∙ passed (roomTests l′ (rowsWith s j x (table l′))) (
-        ap not (ap₂ roomy (sym z) (ap (rowsWith s j x) (sym r) ∙ sym (own-rows j x (table l) e (w .order)))
-            ∙ roomy-own (space l) (rowsWith s j x (table l)) (inserted-room s l j x w q)),
+        ap not (ap₂ roomy (sym z) (ap (rowsWith s j x) (sym r) ∙ sym (own-rows j x (table l) e o)) ∙ roomy-own (space l) (rowsWith s j x (table l)) (accepted-room s l j x k)),
         tt,
       )
-
-module _ (s : GridSearch) (l : Library) (w : Whole s l) where
-  effect-good : (c : Change) → fault (ownTests s l c) ≡ none → all (goodRow s) (effect s c (table l)) ≡ true
-  unfolding effect
-  effect-good (insert i x) q = inserted-good s l i x w q
-
-  effect-room : (c : Change) → fault (ownTests s l c) ≡ none → roomy (space l) (effect s c (table l)) ≡ true
-  unfolding effect
-  effect-room (insert i x) q = inserted-room s l i x w q
-
-pub effect-order : (s : GridSearch) (c : Change) (rows : List Row) → sorted (map slotOf rows) ≡ true → sorted (map slotOf (effect s c rows)) ≡ true
-unfolding effect rowsWith
-effect-order s (insert i x) rows o = sorted-all i (positionOf x) (targets s x) rows o
+    where
+      fit-insert : fault (changeTests s l (insert j x)) ≡ none → fault (libraryTests s l) ≡ none
+      fit-insert q = fault-left (libraryTests s l) (ownTests s l (insert j x)) (unfold changeTests in q)
 
 -- ---- the same for every change
 
--- what is written is what is then in use
-pub changed-table : (s : GridSearch) (l : Library) (c : Change) → table (changed s l c) ≡ effect s c (table l)
-unfolding changed
-changed-table s l c = table-write (effect s c (table l)) l
+changing-by : (s : GridSearch) (l : Library) (c : Change) (o : Option ℕ) → fault (changeTests s l c) ≡ o → changing s l c ≡ settle o (counting s c (table l)) (changed s l c) l
+changing-by s l c o e = changing-is s l c ∙ ap (λ (o : Option ℕ). settle o (counting s c (table l)) (changed s l c) l) e
 
-module _ (s : GridSearch) (l : Library) (w : Whole s l) (c : Change) (q : fault (ownTests s l c) ≡ none) where
-  pub changed-space : space (changed s l c) ≡ space l
-  unfolding changed
-  changed-space = space-write (effect s c (table l)) l s w (effect-room s l w c q)
+-- what `step` does
+pub step-done : (s : GridSearch) (l : Library) (c : Change) → fault (changeTests s l c) ≡ none
+    → (step s l (change c) .library ≡ changed s l c) × (refusal (step s l (change c) .reply) ≡ none)
+unfolding step refusal settle
+step-done s l c e = let d = changing-by s l c none e in (ap (λ (t : Turn ℕ). t .library) d, ap (λ (t : Turn ℕ). refusalIn (t .answer)) d)
 
-  changed-used : changed s l c .used ≡ length (effect s c (table l))
-  unfolding changed
-  changed-used = write-used (effect s c (table l)) l
+pub step-refused : (s : GridSearch) (l : Library) (c : Change) (n : ℕ) → fault (changeTests s l c) ≡ some n
+    → (step s l (change c) .library ≡ l) × (refusal (step s l (change c) .reply) ≡ some n)
+unfolding step refusal settle
+step-refused s l c n e = let d = changing-by s l c (some n) e in (ap (λ (t : Turn ℕ). t .library) d, ap (λ (t : Turn ℕ). refusalIn (t .answer)) d)
 
-  pub changed-whole : Whole s (changed s l c)
-  unfolding roomy
-  changed-whole = record {
-    sheet = w .sheet;
-    even = rw changed-space (w .even);
-    room = rw (changed-space, changed-used) (effect-room s l w c q);
-    rows = rw (changed-table s l c) (effect-good s l w c q);
-    order = rw (changed-table s l c) (effect-order s c (table l) (w .order));
-  }
-
--- ---- the tests of the library itself
-
--- they look at the rows in use and the space alone
-pub same-tests : (s : GridSearch) (l l′ : Library) → tooLong (space l) ≡ tooLong (space l′) → sound s l ≡ sound s l′ → libraryTests s l ≡ libraryTests s l′
-unfolding libraryTests
-same-tests s l l′ = ap₂ (λ (a b : Bool). refuse 24 a ∷ refuse 13 (not b) ∷ [])
-
--- a change that is accepted passed its own tests
-pub passed-own : (s : GridSearch) (l : Library) (c : Change) → fault (changeTests s l c) ≡ none → fault (ownTests s l c) ≡ none
+-- a change that is accepted was made on a library that passes 24 and 13
+pub fit : (s : GridSearch) (l : Library) (c : Change) → fault (changeTests s l c) ≡ none → fault (libraryTests s l) ≡ none
 unfolding changeTests
-passed-own s l c q = sym (fault-right (libraryTests s l) (ownTests s l c) (fault-left (libraryTests s l) (ownTests s l c) q)) ∙ q
+fit s l c e = fault-left (libraryTests s l) (ownTests s l c) e
 
-module _ (s : GridSearch) (l l′ : Library) (w : Whole s l) (w′ : Whole s l′) (z : space l ≡ space l′) where
-  pub same-library : libraryTests s l ≡ libraryTests s l′
-  same-library = same-tests s l l′ (ap tooLong z) (together s l w ∙ sym (together s l′ w′))
-
-  pub accepts-too : (i : ℕ) (c : Change) → eqb (whose c) i ≡ true → own i (table l) ≡ table l′ → fault (changeTests s l c) ≡ none → fault (changeTests s l′ c) ≡ none
-  unfolding changeTests
-  accepts-too i c e r q =
-      fault-right (libraryTests s l′) (ownTests s l′ c) (ap fault (sym same-library) ∙ fault-left (libraryTests s l) (ownTests s l c) q)
-      ∙ own-too s i l l′ c e w z r (passed-own s l c q)
+-- another library of the same space, which passes its own tests and has the rows of i alone, accepts a change of i that the first accepts
+pub accepts-too : (s : GridSearch) (l l′ : Library) → fault (libraryTests s l′) ≡ none → space l ≡ space l′ → (i : ℕ) (c : Change) → eqb (whose c) i ≡ true → own i (table l) ≡ table l′
+    → fault (changeTests s l c) ≡ none → fault (changeTests s l′ c) ≡ none
+accepts-too s l l′ v z i c e r q = unfold changeTests in fault-right (libraryTests s l′) (ownTests s l′ c) v ∙ own-too s i l l′ c e z r q

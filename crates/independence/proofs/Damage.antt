@@ -11,36 +11,25 @@ use borrow.Author.Tests.{not-true}
 use Rattle.basics.proofs.Bools.{by-test, both, and-both}
 use Rattle.basics.specs.Lists.{all}
 use Rattle.basics.specs.Refusals.{Test, refuse, fault, answer}
-use Rattle.basics.proofs.Refusals.{fault-left, fault-right}
+use Rattle.basics.proofs.Refusals.{fault-right, fault-stop}
 use Rattle.grid_search.specs.declared.GridSearch.{GridSearch}
-use Rattle.rows.specs.Library.{Library, table, space, libraryTests}
+use Rattle.table.specs.Library.{Library, table, space}
+use Rattle.rows.specs.Damage.{libraryTests}
 use Rattle.rows.specs.Insert.{positionTests, roomTests}
-use Rattle.search.specs.Search.{searchTests, searchAnswer, lowest, nearRows}
+use Rattle.search.specs.Search.{searchTests, searchAnswer, chosen, nearRows}
 use Rattle.listing.specs.declared.Filter.{Filter}
 use Rattle.listing.specs.Place.{Asked, placeTests}
 use Rattle.listing.specs.Listing.{idsOn, occupied, onTests, listingTests, listOut, listing}
-use Rattle.rows.proofs.Check.{whole}
 use Rattle.independence.specs.Run.{Change, insert, Call, change, search, list, Reply, step, refusalIn, refusal, run, replies}
 use Rattle.independence.specs.Claims.{blames}
-use Rattle.independence.proofs.Changes.{changeTests, ownTests, changed, step-done, step-refused, changed-space, changed-whole, passed-own, same-library}
+use Rattle.independence.proofs.Changes.{changeTests, ownTests, step-done, step-refused, changed-space, changed-passes}
 use Rattle.independence.proofs.Runs.{kept}
 
--- a change that is accepted was made on a library that passes 24 and 13
-pub fit : (s : GridSearch) (l : Library) (c : Change) → fault (changeTests s l c) ≡ none → fault (libraryTests s l) ≡ none
-unfolding changeTests
-fit s l c e = fault-left (libraryTests s l) (ownTests s l c) e
-
 pub space-kept : (s : GridSearch) (calls : List Call) (l : Library) → space (run s l calls) ≡ space l
-space-kept s calls l =
-    kept s (λ (m : Library). space m ≡ space l) (λ m c e z. changed-space s m (whole s m (fit s m c e)) c (passed-own s m c e) ∙ z) calls l refl
+space-kept s calls l = kept s (λ (m : Library). space m ≡ space l) (λ m c e z. changed-space s m c e ∙ z) calls l refl
 
 pub tests-kept : (s : GridSearch) (calls : List Call) (l : Library) → fault (libraryTests s l) ≡ none → fault (libraryTests s (run s l calls)) ≡ none
-tests-kept s =
-    kept s (λ (m : Library). fault (libraryTests s m) ≡ none)
-    (λ m c e v.
-    let w = whole s m v in
-    let q = passed-own s m c e in
-    ap fault (sym (same-library s m (changed s m c) w (changed-whole s m w c q) (sym (changed-space s m w c q)))) ∙ v)
+tests-kept s = kept s (λ (m : Library). fault (libraryTests s m) ≡ none) (λ m c e v. changed-passes s m c e)
 
 -- ---- the numbers
 
@@ -77,7 +66,7 @@ module _ (s : GridSearch) (l : Library) where
 
   refusal-search : (x : List Float) → refusal (step s l (search x) .reply) ≡ fault (libraryTests s l ++ positionTests s x (x ∷ []))
   unfolding step refusal searchAnswer searchTests
-  refusal-search x = refusal-answer (fault (searchTests s l x)) (lowest (nearRows s x (table l)))
+  refusal-search x = refusal-answer (fault (searchTests s l x)) (chosen s x (nearRows s x (table l)))
 
   refusal-list : (p : Asked) (f : Filter) (lent : List ℕ)
       → refusal (step s l (list p f lent) .reply) ≡ fault (libraryTests s l ++ (placeTests s p f (occupied (table l)) ++ (refuse 14 (ltb (length lent) (length (idsOn s l p f))) ∷ [])))
@@ -110,3 +99,11 @@ pub blameless-run : (s : GridSearch) (calls : List Call) (l : Library) → fault
 unfolding run replies all
 blameless-run s [] l v = refl
 blameless-run s (c ∷ calls) l v = both (ap not (blameless-step s l v c)) (blameless-run s calls (step s l c .library) (tests-kept s (c ∷ []) l v))
+
+-- a library that its own tests refuse refuses every call with their number
+pub refused-step : (s : GridSearch) (l : Library) (n : ℕ) → fault (libraryTests s l) ≡ some n → (c : Call) → refusal (step s l c .reply) ≡ some n
+refused-step s l n u (change c) = refusal-change s l c (fault (changeTests s l c)) refl ∙ unfold changeTests in fault-stop (libraryTests s l) (ownTests s l c) n u
+refused-step s l n u (search x) = refusal-search s l x ∙ fault-stop (libraryTests s l) (positionTests s x (x ∷ [])) n u
+refused-step s l n u (list p f lent) =
+    refusal-list s l p f lent
+    ∙ fault-stop (libraryTests s l) (placeTests s p f (occupied (table l)) ++ (refuse 14 (ltb (length lent) (length (idsOn s l p f))) ∷ [])) n u

@@ -15,10 +15,10 @@ use Rattle.grid_search.specs.declared.GivenF64.the-variants as float
 use Rattle.grid_search.specs.declared.GridSearch.{GridSearch}
 use Rattle.grid_search.specs.Sheet.{sheetFrom}
 use Rattle.table.specs.Rows.{keyIn, before, same}
-use Rattle.rows.specs.Library.{Library, table}
+use Rattle.table.specs.Library.{Library, table}
 use Rattle.listing.specs.declared.Filter.the-variants.{Everything}
 use Rattle.listing.specs.Place.{Asked, line}
-use Rattle.independence.specs.Run.{Change, insert, Call, change, search, list, inserted, found, listed, run, replies}
+use Rattle.independence.specs.Run.{Change, insert, Call, change, search, list, counted, found, listed, run, replies}
 use Rattle.independence.specs.Histories.{history}
 use Rattle.independence.specs.Queries.{near, on}
 use Rattle.independence.specs.Claims.{replay}
@@ -85,14 +85,14 @@ l′ = empty 10 900 nan
 -- 15 where there are rows and not before; 11 for the position outside; Nothing 1.125 tolerances away; then 6 is the lowest near (2,1); 14 for the short list
 all-replies : replies S l calls
     ≡ listed (record { answer = success 0; list = [] })
-    ∷ inserted (success 4)
-    ∷ inserted (success 5)
+    ∷ counted (success 4)
+    ∷ counted (success 5)
     ∷ listed (record { answer = refused 15; list = [] })
-    ∷ inserted (refused 11)
+    ∷ counted (refused 11)
     ∷ found (success (some 7))
     ∷ found (success none)
-    ∷ inserted (success 6)
-    ∷ inserted (success 10)
+    ∷ counted (success 6)
+    ∷ counted (success 10)
     ∷ found (success (some 6))
     ∷ listed (record { answer = success 2; list = 6 ∷ 7 ∷ 9 ∷ [] })
     ∷ listed (record { answer = refused 14; list = 0 ∷ [] })

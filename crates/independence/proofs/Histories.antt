@@ -13,7 +13,7 @@ use Rattle.grid_search.specs.declared.GridSearch.{GridSearch}
 use Rattle.table.specs.declared.Row.{Row}
 use Rattle.table.specs.Rows.{Slot, slotOf, sorted, rowFor, rowIn, own}
 use Rattle.table.proofs.Ids.{rowFor-putIn, rowFor-own}
-use Rattle.rows.specs.Library.{Library, table}
+use Rattle.table.specs.Library.{Library, table}
 use Rattle.rows.specs.Insert.{targets, rowsWith}
 use Rattle.independence.specs.Run.{Change, insert, Call, change, search, list, step, run}
 use Rattle.independence.specs.Histories.{whose, history, effect, built, placing, placed}

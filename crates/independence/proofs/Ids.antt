@@ -3,17 +3,19 @@ use Prim.Native.Nat.{ℕ, _≤_}
 use native.Mathlib.Omega.{arith}
 use mathlib.Core.Path.{_≡_, refl, sym, _∙_, ap}
 use mathlib.Core.Bool.{Bool, true, false, _||_, or-self-left}
-use mathlib.Core.List.{List, [], _∷_}
+use mathlib.Core.List.{List, [], _∷_, map}
 use lib.Dec.{ltb, eqb}
-use lib.ListN.{length}
+use lib.ListN.{length, length-map}
 use borrow.Author.Tests.{eqb-true}
 use Rattle.basics.proofs.Bools.{by-test, clash}
-use Rattle.basics.specs.Lists.{any, keep, has, enter}
+use Rattle.basics.specs.Lists.{keep, has, enter}
+use Rattle.basics.proofs.Lists.{length-keep}
 use Rattle.table.specs.declared.Row.{Row}
 use Rattle.table.specs.Rows.{idIn, own}
-use Rattle.sorting.specs.Ascent.{ascending, enter-ascending, enter-length}
+use Rattle.sorting.specs.Ascent.{ascending}
+use Rattle.sorting.specs.Sorted.{distinct}
+use Rattle.sorting.proofs.Ascent.{distinct-ascending, distinct-length}
 use Rattle.listing.specs.Listing.{idsOf, occupied}
-use Rattle.independence.specs.Queries.{holds}
 
 or-left-comm : (a b c : Bool) → (a || (b || c)) ≡ (b || (a || c))
 or-left-comm true true c = refl
@@ -29,15 +31,23 @@ has-enter i j (k ∷ ks) =
     by-test (eqb k j) (λ f. rw (e, f) (sym (ap (λ (n : ℕ). eqb n i || (eqb k i || has i ks)) (sym (eqb-true k j f)) ∙ or-self-left (eqb k i) (has i ks))))
     (λ f. rw (e, f, has-enter i j ks) (or-left-comm (eqb k i) (eqb j i) (has i ks))))
 
+-- one of the rows is the id's
+abbrev pub holds : ℕ → List Row → Bool
+holds i rows = has i (map idIn rows)
+
+has-distinct : (i : ℕ) (xs : List ℕ) → has i (distinct xs) ≡ has i xs
+unfolding has distinct
+has-distinct i [] = refl
+has-distinct i (x ∷ xs) = has-enter i x (distinct xs) ∙ ap (λ (b : Bool). eqb x i || b) (has-distinct i xs)
+
 -- an id is listed exactly if one of the rows that count is its own
 pub has-ids : (i : ℕ) (p : Row → Bool) (rows : List Row) → has i (idsOf p rows) ≡ holds i (keep p rows)
-unfolding has idsOf holds any keep
-has-ids i p [] = refl
-has-ids i p (r ∷ rows) = by-test (p r) (λ e. rw e (has-enter i (idIn r) (idsOf p rows) ∙ ap (λ (b : Bool). eqb (idIn r) i || b) (has-ids i p rows))) (λ e. rw (e, has-ids i p rows))
+unfolding idsOf
+has-ids i p rows = has-distinct i (map idIn (keep p rows))
 
 -- and so among its own rows
 pub holds-own : (i : ℕ) (p : Row → Bool) (rows : List Row) → holds i (keep p rows) ≡ holds i (keep p (own i rows))
-unfolding holds any keep own
+unfolding has keep own
 holds-own i p [] = refl
 holds-own i p (r ∷ rows) =
     let ih = holds-own i p rows in
@@ -45,7 +55,7 @@ holds-own i p (r ∷ rows) =
 
 -- no id is there where there is no row, and where an id has a row, there is one
 pub none-there : (i : ℕ) (p : Row → Bool) (rows : List Row) → occupied rows ≡ false → holds i (keep p rows) ≡ false
-unfolding holds any keep occupied
+unfolding has keep occupied
 none-there i p [] e = refl
 none-there i p (r ∷ rows) e = clash refl e
 
@@ -56,11 +66,9 @@ occupied-own i (r ∷ rows) e = refl
 
 -- they ascend strictly, and are at most as many as the rows
 pub ids-ascend : (p : Row → Bool) (rows : List Row) → ascending (idsOf p rows) ≡ true
-unfolding idsOf ascending
-ids-ascend p [] = refl
-ids-ascend p (r ∷ rows) = by-test (p r) (λ e. rw e (enter-ascending (idIn r) (idsOf p rows) (ids-ascend p rows))) (λ e. rw e (ids-ascend p rows))
+unfolding idsOf
+ids-ascend p rows = distinct-ascending (map idIn (keep p rows))
 
 pub ids-no-more : (p : Row → Bool) (rows : List Row) → length (idsOf p rows) ≤ length rows
 unfolding idsOf
-ids-no-more p [] = omega arith
-ids-no-more p (r ∷ rows) = by-test (p r) (λ e. rw e (omega (arith, enter-length (idIn r) (idsOf p rows), ids-no-more p rows))) (λ e. rw e (omega (arith, ids-no-more p rows)))
+ids-no-more p rows = omega (arith, distinct-length (map idIn (keep p rows)), length-map (keep p rows) idIn, length-keep p rows)

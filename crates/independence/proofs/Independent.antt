@@ -10,17 +10,18 @@ use Rattle.basics.specs.Lists.{all}
 use Rattle.basics.specs.Refusals.{fault}
 use Rattle.grid_search.specs.declared.GridSearch.{GridSearch}
 use Rattle.table.specs.Rows.{own}
-use Rattle.rows.specs.Library.{Library, table, space}
-use Rattle.rows.proofs.Check.{Whole}
+use Rattle.table.specs.Library.{Library, table, space}
+use Rattle.rows.specs.Damage.{libraryTests}
+use Rattle.rows.proofs.Check.{whole}
 use Rattle.independence.specs.Run.{Change, Call, change, search, list, step, isNone, accepted, run, replies}
 use Rattle.independence.specs.Histories.{whose, history, effect}
-use Rattle.independence.proofs.Changes.{changeTests, ownTests, changed, step-done, other-effect, own-effect, changed-table, changed-space, changed-whole, passed-own, accepts-too}
+use Rattle.independence.proofs.Changes.{changeTests, changed, step-done, other-effect, own-effect, changed-table, changed-space, changed-passes, accepts-too}
 use Rattle.independence.proofs.Runs.{run-done, replies-done, history-own, history-other, run-kept, history-kept}
 
 -- the second library holds what the first holds of the id
 pub record Related (i : ℕ) (s : GridSearch) (l l′ : Library) : Type 0 where
-  pub one : Whole s l
-  pub two : Whole s l′
+  pub one : fault (libraryTests s l) ≡ none
+  pub two : fault (libraryTests s l′) ≡ none
   pub size : space l ≡ space l′
   pub rows : own i (table l) ≡ table l′
 
@@ -28,29 +29,24 @@ module _ (i : ℕ) (s : GridSearch) where
   -- ---- one change
 
   module _ (l l′ : Library) (R : Related i s l l′) (c : Change) (q : fault (changeTests s l c) ≡ none) where
-    p : fault (ownTests s l c) ≡ none
-    p = passed-own s l c q
-
     one-changes : eqb (whose c) i ≡ false → Related i s (changed s l c) l′
     one-changes e = record {
-      one = changed-whole s l (R .one) c p;
+      one = changed-passes s l c q;
       two = R .two;
-      size = changed-space s l (R .one) c p ∙ R .size;
+      size = changed-space s l c q ∙ R .size;
       rows = rw (changed-table s l c) (other-effect s i c (table l) e ∙ R .rows);
     }
 
     too : eqb (whose c) i ≡ true → fault (changeTests s l′ c) ≡ none
-    too e = accepts-too s l l′ (R .one) (R .two) (R .size) i c e (R .rows) q
+    too e = accepts-too s l l′ (R .two) (R .size) i c e (R .rows) q
 
     both-change : eqb (whose c) i ≡ true → Related i s (changed s l c) (changed s l′ c)
-    both-change e =
-        let p′ = passed-own s l′ c (too e) in
-        record {
-          one = changed-whole s l (R .one) c p;
-          two = changed-whole s l′ (R .two) c p′;
-          size = changed-space s l (R .one) c p ∙ R .size ∙ sym (changed-space s l′ (R .two) c p′);
-          rows = rw (changed-table s l c, changed-table s l′ c) (own-effect s i c (table l) e (R .one .order) ∙ ap (effect s c) (R .rows));
-        }
+    both-change e = record {
+      one = changed-passes s l c q;
+      two = changed-passes s l′ c (too e);
+      size = changed-space s l c q ∙ R .size ∙ sym (changed-space s l′ c (too e));
+      rows = rw (changed-table s l c, changed-table s l′ c) (own-effect s i c (table l) e (whole s l (R .one) .order) ∙ ap (effect s c) (R .rows));
+    }
 
   -- ---- every list of calls
 

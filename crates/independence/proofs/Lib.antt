@@ -1,7 +1,5 @@
 -- The proof of demand 3. `Theorems` has a proof of each claim of specs/Claims.antt; `Independent` is its heart; `Examples` evaluates a run.
 pub mod Ids
-pub mod Lists
-pub mod Keys
 pub mod Changes
 pub mod Replies
 pub mod Runs

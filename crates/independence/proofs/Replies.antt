@@ -1,77 +1,74 @@
--- A call's reply depends on the rows in use and the space alone, not on what the lists hold past the used count.
+-- The reply of a library that passes 24 and 13 depends on its rows in use and its space alone, not on what its lists hold past the used count.
 use Prim.Native.Nat.{ℕ}
 use mathlib.Core.Path.{_≡_, refl, sym, _∙_, ap, ap₂}
-use mathlib.Core.Bool.{Bool, not, _&&_}
 use mathlib.Core.Option.{Option, none, some}
-use mathlib.Core.List.{List, [], _∷_, _++_, map}
+use mathlib.Core.List.{List, [], _∷_, _++_, append-assoc}
 use lib.Dec.{ltb}
 use lib.ListN.{length}
 use lib.Ieee.{Float}
-use Rattle.basics.specs.Lists.{all}
 use Rattle.basics.specs.Refusals.{Test, refuse, fault, answer}
+use Rattle.basics.proofs.Refusals.{fault-right}
 use Rattle.grid_search.specs.declared.GridSearch.{GridSearch}
-use Rattle.grid_search.specs.Sheet.{sheetOk}
 use Rattle.table.specs.declared.Row.{Row}
-use Rattle.table.specs.Rows.{slotOf, sorted}
-use Rattle.rows.specs.Library.{Library, table, write, Space, space, tooLong, level, fits, roomy, goodRow, sound, libraryTests, Turn}
-use Rattle.rows.specs.Insert.{points, rowsWith, positionTests, roomTests, settle, insertion}
-use Rattle.search.specs.Search.{nearRows, lowest, searchTests, searchAnswer}
+use Rattle.table.specs.Library.{Library, table, space}
+use Rattle.rows.specs.Damage.{libraryTests}
+use Rattle.rows.specs.Insert.{Turn, positionTests, settle}
+use Rattle.search.specs.Search.{nearRows, chosen, searchTests, searchAnswer}
 use Rattle.listing.specs.declared.Filter.{Filter}
 use Rattle.listing.specs.Place.{Asked, isOn, placeTests}
-use Rattle.listing.specs.Listing.{idsOf, occupied, idsOn, onTests, listingTests, listOut, listing}
-use Rattle.independence.specs.Run.{insert, Call, change, search, list, inserted, found, listed, step}
-use Rattle.independence.proofs.Lists.{used-length}
-use Rattle.independence.proofs.Changes.{changeTests, ownTests, insertion-is, same-tests}
-
--- 13 from the space and the rows
-soundness : GridSearch → Space → List Row → Bool
-soundness s z rows = sheetOk s && (level (z .rows) && (fits (z .rows) (length rows) && (all (goodRow s) rows && sorted (map slotOf rows))))
-
-sound-is : (s : GridSearch) (l : Library) → sound s l ≡ soundness s (space l) (table l)
-unfolding sound soundness
-sound-is s l = rw (used-length l)
+use Rattle.listing.specs.Listing.{idsOf, occupied, Listing, idsOn, onTests, listingTests, listOut, listing}
+use Rattle.independence.specs.Run.{Change, Call, change, search, list, counted, found, listed, changing, step}
+use Rattle.independence.proofs.Changes.{changeTests, ownTests, counting, changed, changing-is, same-own}
 
 settled : {A : Type 0} (o : Option ℕ) (a : A) (new old : Library) → settle o a new old .answer ≡ answer o a
 unfolding settle answer
 settled none a new old = refl
 settled (some n) a new old = refl
 
--- each call's reply, by the tests of the library, its space and its rows
+-- a listing by the rows
+listReply : GridSearch → List Row → Asked → Filter → List ℕ → Listing
+listReply s rows p f lent =
+    listOut (fault (placeTests s p f (occupied rows) ++ (refuse 14 (ltb (length lent) (length (idsOf (isOn s p f) rows))) ∷ []))) (idsOf (isOn s p f) rows) lent
 
-insert-tests : GridSearch → List Test → Space → List Row → ℕ → List Float → List Test
-insert-tests s ts z rows i x = ts ++ (positionTests s x (points s x) ++ (refuse 12 (not (roomy z (rowsWith s i x rows))) ∷ []))
+module _ (s : GridSearch) (l : Library) (v : fault (libraryTests s l) ≡ none) where
+  -- the tests of the library pass, and the call's own decide
+  own-decide : (ts : List Test) → fault (libraryTests s l ++ ts) ≡ fault ts
+  own-decide ts = fault-right (libraryTests s l) ts v
 
-insert-is : (s : GridSearch) (l : Library) (i : ℕ) (x : List Float)
-    → insertion s l i x .answer ≡ answer (fault (insert-tests s (libraryTests s l) (space l) (table l) i x)) (length (rowsWith s i x (table l)))
-unfolding changeTests ownTests roomTests insert-tests
-insert-is s l i x =
-    ap (λ (t : Turn ℕ). t .answer) (insertion-is s l i x)
-    ∙ settled (fault (changeTests s l (insert i x))) (length (rowsWith s i x (table l))) (write (rowsWith s i x (table l)) l) l
+  change-is : (c : Change) → changing s l c .answer ≡ answer (fault (ownTests s l c)) (counting s c (table l))
+  unfolding changeTests
+  change-is c =
+      ap (λ (t : Turn ℕ). t .answer) (changing-is s l c)
+      ∙ settled (fault (changeTests s l c)) (counting s c (table l)) (changed s l c) l
+      ∙ ap (λ (o : Option ℕ). answer o (counting s c (table l))) (own-decide (ownTests s l c))
 
-module _ (s : GridSearch) (m n : Library) (z : space m ≡ space n) (t : table m ≡ table n) where
-  pub same-library-tests : libraryTests s m ≡ libraryTests s n
-  same-library-tests = same-tests s m n (ap tooLong z) (sound-is s m ∙ ap₂ (soundness s) z t ∙ sym (sound-is s n))
+  search-is : (x : List Float) → searchAnswer s l x ≡ answer (fault (positionTests s x (x ∷ []))) (chosen s x (nearRows s x (table l)))
+  unfolding searchAnswer searchTests
+  search-is x = ap (λ (o : Option ℕ). answer o (chosen s x (nearRows s x (table l)))) (own-decide (positionTests s x (x ∷ [])))
 
-  same-insert : (i : ℕ) (x : List Float) → insertion s m i x .answer ≡ insertion s n i x .answer
-  same-insert i x =
-      insert-is s m i x
-      ∙ ap (λ (ts : List Test). answer (fault (insert-tests s ts (space m) (table m) i x)) (length (rowsWith s i x (table m)))) same-library-tests
-      ∙ ap₂ (λ (y : Space) (rows : List Row). answer (fault (insert-tests s (libraryTests s n) y rows i x)) (length (rowsWith s i x rows))) z t
-      ∙ sym (insert-is s n i x)
+  list-is : (p : Asked) (f : Filter) (lent : List ℕ) → listing s l p f lent ≡ listReply s (table l) p f lent
+  unfolding listing listingTests onTests idsOn listReply
+  list-is p f lent =
+      let short = refuse 14 (ltb (length lent) (length (idsOn s l p f))) ∷ [] in
+      ap (λ (o : Option ℕ). listOut o (idsOn s l p f) lent)
+      (ap fault (append-assoc (libraryTests s l) (placeTests s p f (occupied (table l))) short) ∙ own-decide (placeTests s p f (occupied (table l)) ++ short))
+
+-- two libraries that pass, of one space and with the same rows
+module _ (s : GridSearch) (m n : Library) (v : fault (libraryTests s m) ≡ none) (u : fault (libraryTests s n) ≡ none) (z : space m ≡ space n) (t : table m ≡ table n) where
+  same-change : (c : Change) → changing s m c .answer ≡ changing s n c .answer
+  same-change c =
+      change-is s m v c
+      ∙ ap₂ (λ (ts : List Test) (rows : List Row). answer (fault ts) (counting s c rows)) (same-own s m n z t c) t
+      ∙ sym (change-is s n u c)
 
   same-search : (x : List Float) → searchAnswer s m x ≡ searchAnswer s n x
-  unfolding searchAnswer searchTests
-  same-search x = ap₂ (λ (ts : List Test) (rows : List Row). answer (fault (ts ++ positionTests s x (x ∷ []))) (lowest (nearRows s x rows))) same-library-tests t
+  same-search x = search-is s m v x ∙ ap (λ (rows : List Row). answer (fault (positionTests s x (x ∷ []))) (chosen s x (nearRows s x rows))) t ∙ sym (search-is s n u x)
 
   same-list : (p : Asked) (f : Filter) (lent : List ℕ) → listing s m p f lent ≡ listing s n p f lent
-  unfolding listing listingTests onTests idsOn
-  same-list p f lent =
-      ap₂ (λ (ts : List Test) (rows : List Row).
-      listOut (fault ((ts ++ placeTests s p f (occupied rows)) ++ (refuse 14 (ltb (length lent) (length (idsOf (isOn s p f) rows))) ∷ []))) (idsOf (isOn s p f) rows) lent)
-      same-library-tests t
+  same-list p f lent = list-is s m v p f lent ∙ ap (λ (rows : List Row). listReply s rows p f lent) t ∙ sym (list-is s n u p f lent)
 
   pub same-reply : (c : Call) → step s m c .reply ≡ step s n c .reply
   unfolding step
-  same-reply (change (insert i x)) = ap inserted (same-insert i x)
+  same-reply (change c) = ap counted (same-change c)
   same-reply (search x) = ap found (same-search x)
   same-reply (list p f lent) = ap listed (same-list p f lent)

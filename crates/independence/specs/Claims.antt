@@ -15,7 +15,8 @@ use Rattle.grid_search.specs.declared.GridSearch.{GridSearch}
 use Rattle.grid_search.specs.Sheet.{sheetOk}
 use Rattle.table.specs.declared.Row.{Row}
 use Rattle.table.specs.Rows.{Slot, slotOf, sorted, rowFor, own}
-use Rattle.rows.specs.Library.{Library, table, space, tooLong, level, libraryTests}
+use Rattle.table.specs.Library.{Library, table, space, tooLong, level}
+use Rattle.rows.specs.Damage.{libraryTests}
 use Rattle.search.specs.Search.{searchAnswer}
 use Rattle.sorting.specs.Ascent.{ascending}
 use Rattle.listing.specs.declared.Filter.{Filter}
@@ -109,9 +110,11 @@ Rows = (s : GridSearch) (l : Library) → Empty l → (calls : List Call) → Of
 pub record Answered (s : GridSearch) (l : Library) (before : List Call) (c : Call) (after : List Call) : Type 0 where
   -- a call is answered on the library that the calls before it left
   pub in-turn : replies s l (before ++ c ∷ after) ≡ replies s l before ++ step s (run s l before) c .reply ∷ replies s (run s l (before ++ c ∷ [])) after
-  -- and as on every library of that space with the histories' rows so far, whatever stands past them
-  pub by-rows : (m : Library) → space m ≡ space l → sorted (map slotOf (table m)) ≡ true → ((i : ℕ) → own i (table m) ≡ built s (history i s l before) [])
+  -- and as on every library of that space that passes 24 and 13 and has the histories' rows so far, whatever stands past them
+  pub by-rows : (m : Library) → space m ≡ space l → fault (libraryTests s m) ≡ none → ((i : ℕ) → own i (table m) ≡ built s (history i s l before) [])
       → step s (run s l before) c .reply ≡ step s m c .reply
+  -- where the library that was handed in fails them, every call is refused with their number
+  pub turned-away : (n : ℕ) → fault (libraryTests s l) ≡ some n → refusal (step s (run s l before) c .reply) ≡ some n
 
 abbrev pub Answers : Type 0
 Answers = (s : GridSearch) (l : Library) → Empty l → (before : List Call) (c : Call) (after : List Call) → Answered s l before c after

@@ -10,7 +10,7 @@ use Rattle.geometry.specs.declared.Position.{Position}
 use Rattle.geometry.specs.Position.{positionOf}
 use Rattle.grid_search.specs.declared.GridSearch.{GridSearch}
 use Rattle.table.specs.declared.Row.{Row}
-use Rattle.rows.specs.Library.{Library}
+use Rattle.table.specs.Library.{Library}
 use Rattle.rows.specs.Insert.{targets, rowsWith}
 use Rattle.independence.specs.Run.{Change, insert, Call, change, search, list, step, accepted}
 

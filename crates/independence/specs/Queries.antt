@@ -2,15 +2,13 @@
 -- Assumes nothing.
 use Prim.Native.Nat.{ℕ}
 use mathlib.Core.Bool.{Bool, _&&_}
-use mathlib.Core.List.{List}
-use lib.Dec.{eqb}
+use mathlib.Core.List.{List, map}
 use lib.Ieee.{Float}
-use Rattle.basics.specs.Lists.{any, has}
+use Rattle.basics.specs.Lists.{has}
 use Rattle.basics.specs.Refusals.{Test, fault}
 use Rattle.grid_search.specs.declared.GridSearch.{GridSearch}
-use Rattle.table.specs.declared.Row.{Row}
 use Rattle.table.specs.Rows.{idIn}
-use Rattle.rows.specs.Library.{Library, table}
+use Rattle.table.specs.Library.{Library, table}
 use Rattle.search.specs.Search.{nearRows, searchTests}
 use Rattle.listing.specs.declared.Filter.{Filter}
 use Rattle.listing.specs.Place.{Asked}
@@ -22,15 +20,10 @@ unfoldable pub pass : List Test → Bool
 unfolding isNone fault
 pass ts = isNone (fault ts)
 
--- one of the rows is the id's
-unfoldable pub holds : ℕ → List Row → Bool
-unfolding any
-holds i rows = any (λ (r : Row). eqb (idIn r) i) rows
-
 -- the id is one of those near the position: search does not refuse the position, and one of the near rows is the id's
 unfoldable pub near : GridSearch → Library → List Float → ℕ → Bool
-unfolding pass searchTests holds nearRows table
-near s l x i = pass (searchTests s l x) && holds i (nearRows s x (table l))
+unfolding pass searchTests has nearRows table
+near s l x i = pass (searchTests s l x) && has i (map idIn (nearRows s x (table l)))
 
 -- the id is one of those on the place: a listing does not refuse the place, however long its list, and the id is one of those listed
 unfoldable pub on : GridSearch → Library → Asked → Filter → ℕ → Bool

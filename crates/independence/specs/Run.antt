@@ -7,8 +7,8 @@ use mathlib.Core.List.{List, [], _∷_}
 use lib.Ieee.{Float}
 use Rattle.basics.specs.Refusals.{Answer, refused, success}
 use Rattle.grid_search.specs.declared.GridSearch.{GridSearch}
-use Rattle.rows.specs.Library.{Library}
-use Rattle.rows.specs.Insert.{insertion}
+use Rattle.table.specs.Library.{Library}
+use Rattle.rows.specs.Insert.{Turn, insertion}
 use Rattle.search.specs.Search.{searchAnswer}
 use Rattle.listing.specs.declared.Filter.{Filter}
 use Rattle.listing.specs.Place.{Asked}
@@ -24,9 +24,9 @@ pub data Call : Type 0 where
   search : List Float → Call
   list : Asked → Filter → List ℕ → Call
 
--- what a call gives back: of a listing, what it leaves in the lent list too
+-- what a call gives back: of a change, a number of rows; of a listing, what it leaves in the lent list too
 pub data Reply : Type 0 where
-  inserted : Answer ℕ → Reply
+  counted : Answer ℕ → Reply
   found : Answer (Option ℕ) → Reply
   listed : Listing → Reply
 
@@ -37,9 +37,14 @@ pub record Step : Type 0 where
   pub library : Library
   pub reply : Reply
 
+-- what a change answers and leaves
+unfoldable pub changing : GridSearch → Library → Change → Turn ℕ
+unfolding insertion
+changing s l (insert i x) = insertion s l i x
+
 unfoldable pub step : GridSearch → Library → Call → Step
-unfolding insertion searchAnswer listing
-step s l (change (insert i x)) = let t = insertion s l i x in record { library = t .library; reply = inserted (t .answer) }
+unfolding changing searchAnswer listing
+step s l (change c) = let t = changing s l c in record { library = t .library; reply = counted (t .answer) }
 step s l (search x) = record { library = l; reply = found (searchAnswer s l x) }
 step s l (list p f lent) = record { library = l; reply = listed (listing s l p f lent) }
 
@@ -50,7 +55,7 @@ refusalIn (success a) = none
 
 unfoldable pub refusal : Reply → Option ℕ
 unfolding refusalIn
-refusal (inserted a) = refusalIn a
+refusal (counted a) = refusalIn a
 refusal (found a) = refusalIn a
 refusal (listed t) = refusalIn (t .answer)
 

@@ -5,7 +5,7 @@ mod walk;
 
 ghost use Rattle.basics.specs.Refusals.{fault, code};
 ghost use Rattle.geometry.specs.Position.{dimension};
-ghost use Rattle.rows.specs.Library.{library};
+ghost use Rattle.table.specs.Library.{library};
 ghost use Rattle.listing.specs.Place.{line, circle, cylinder, plane, askedOf, asked, placeTests};
 ghost use Rattle.listing.specs.Listing.{listing, Lists};
 ghost use mathlib.Core.Path.{_≡_};

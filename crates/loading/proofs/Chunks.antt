@@ -1,11 +1,11 @@
 -- A file of marks can be read in parts: where a part is whole records, the marks of the file are those of the part and then those
 -- of the rest, and what is left over is the rest's.
 -- Assumes nothing.
-use Prim.Native.Nat.{ℕ, zero, suc, _+_, _-_, _*_, _/_, _%_, _≤_, _<_}
-use native.Mathlib.Nat.{zero-add, suc-add, add-assoc}
+use Prim.Native.Nat.{ℕ, zero, suc, _+_, _*_, _/_, _%_, _≤_, _<_}
+use native.Mathlib.Nat.{zero-add, suc-add, add-zero, suc-mul, add-mul, mul-le-mul-right, div-mul-le-self, div-add-mod', mul-add-div-right, mul-add-mod-self-right}
 use native.Mathlib.Omega.{arith}
 use mathlib.Core.Path.{_≡_, refl, sym, ap, ap₂, _∙_}
-use mathlib.Core.Bool.{Bool, true, false, not}
+use mathlib.Core.Bool.{true, false, not}
 use mathlib.Core.Logic.{_⊎_, inl, inr}
 use mathlib.Core.Option.{Option, none, some, Option·some-ne-none}
 use mathlib.Core.List.{List, [], _∷_, _++_}
@@ -17,35 +17,11 @@ use Rattle.basics.proofs.Bools.{which}
 use Rattle.basics.specs.Lists.{tab}
 use Rattle.basics.specs.Refusals.{Answer, refused, success, refuse, fault}
 use Rattle.grid_search.specs.declared.GridSearch.{GridSearch}
-use Rattle.rows.specs.Library.{Library, Turn}
-use Rattle.rows.specs.Insert.{insertion}
-use Rattle.records.specs.declared.Record.{Record}
-use Rattle.records.specs.Records.{littleEndian, numberAt, floatAt, recordAt}
-use Rattle.loading.specs.Loading.{placeOf, unless, recordsOf, andThen, insertAll, leftover, finish, insertBytes}
+use Rattle.table.specs.Library.{Library}
+use Rattle.rows.specs.Insert.{Turn}
+use Rattle.loading.specs.Loading.{unless, recordsOf, insertRecord, andThen, insertAll, leftover, finish, insertBytes}
 
--- ---- records
-
-module _ (a b : List ℕ) where
-  number-front : (at : ℕ) → at + 8 ≤ length a → numberAt (a ++ b) at ≡ numberAt a at
-  unfolding numberAt
-  number-front at h =
-      let in-a : at ≤ length a = omega arith in
-      let long : 8 ≤ length (drop at a) = rw length-drop (omega arith) in
-      rw (drop-append-le at a b in-a, take-append-le 8 (drop at a) b long)
-
-  number-back : (at : ℕ) → numberAt (a ++ b) (length a + at) ≡ numberAt b at
-  unfolding numberAt
-  number-back at = ap (λ (l : List ℕ). littleEndian (take 8 l)) (drop-append-add a b at)
-
-  record-front : (at : ℕ) → at + 32 ≤ length a → recordAt (a ++ b) at ≡ recordAt a at
-  unfolding recordAt floatAt
-  record-front at h =
-      rw (number-front at (omega arith), number-front (at + 8) (omega arith), number-front (at + 16) (omega arith), number-front (at + 24) (omega arith))
-
-  record-back : (at : ℕ) → recordAt (a ++ b) (length a + at) ≡ recordAt b at
-  unfolding recordAt floatAt
-  record-back at =
-      rw (add-assoc (length a) at 8, add-assoc (length a) at 16, add-assoc (length a) at 24, number-back at, number-back (at + 8), number-back (at + 16), number-back (at + 24))
+-- ---- tables
 
 tab-same : {A : Type 0} (n : ℕ) (f g : ℕ → A) → ((i : ℕ) → i < n → f i ≡ g i) → tab n f ≡ tab n g
 tab-same zero f g e = refl
@@ -58,16 +34,69 @@ tab-append {A} (suc m) n f =
     (ap (λ (l : List A). f 0 ∷ l)
     (tab-append m n (λ i. f (suc i)) ∙ ap (λ (l : List A). tab m (λ i. f (suc i)) ++ l) (tab-same n (λ i. f (suc (m + i))) (λ i. f (suc m + i)) λ i h. ap f (sym (suc-add m i)))))
 
-pub records-append : (a b : List ℕ) → length a % 32 ≡ 0 → recordsOf (a ++ b) ≡ recordsOf a ++ recordsOf b
-unfolding recordsOf
-records-append a b e =
-    let many : length (a ++ b) / 32 ≡ length a / 32 + length b / 32 = rw length-append (omega arith) in
-    rw (many, tab-append (length a / 32) (length b / 32) (λ i. recordAt (a ++ b) (32 * i)))
-    (ap₂ (λ (l m : List Record). l ++ m)
-    (tab-same (length a / 32) (λ i. recordAt (a ++ b) (32 * i)) (λ i. recordAt a (32 * i)) λ i h. record-front a b (32 * i) (omega arith))
-    (tab-same (length b / 32) (λ i. recordAt (a ++ b) (32 * (length a / 32 + i))) (λ i. recordAt b (32 * i)) λ i h.
-    let past : 32 * (length a / 32 + i) ≡ length a + 32 * i = omega arith in
-    rw past (record-back a b (32 * i))))
+-- ---- records
+
+-- a whole record ends where the bytes end, or before
+pub record-inside : (width n i : ℕ) → i < n / width → i * width + width ≤ n
+record-inside width n i h =
+    let all : n / width * width ≤ n = div-mul-le-self n width in
+    let upto : suc i * width ≤ n / width * width = mul-le-mul-right width h in
+    rw (sym (suc-mul i width)) (omega arith)
+
+-- bytes that are whole records
+whole-length : (width : ℕ) (a : List ℕ) → length a % width ≡ 0 → length a ≡ length a / width * width
+whole-length width a e = sym (div-add-mod' (length a) width) ∙ ap (λ (r : ℕ). length a / width * width + r) e ∙ add-zero (length a / width * width)
+
+module _ (width : ℕ) (some-width : 0 < width) (a b : List ℕ) (e : length a % width ≡ 0) where
+  record-front : (i : ℕ) → i < length a / width → take width (drop (i * width) (a ++ b)) ≡ take width (drop (i * width) a)
+  record-front i h =
+      let inside : i * width + width ≤ length a = record-inside width (length a) i h in
+      let start : i * width ≤ length a = omega arith in
+      let long : width ≤ length (drop (i * width) a) = rw length-drop (omega arith) in
+      rw (drop-append-le (i * width) a b start, take-append-le width (drop (i * width) a) b long)
+
+  record-back : (i : ℕ) → take width (drop ((length a / width + i) * width) (a ++ b)) ≡ take width (drop (i * width) b)
+  record-back i =
+      let past : (length a / width + i) * width ≡ length a + i * width = add-mul (length a / width) i width ∙ ap (λ (n : ℕ). n + i * width) (sym (whole-length width a e)) in
+      ap (λ (n : ℕ). take width (drop n (a ++ b))) past ∙ ap (take width) (drop-append-add a b (i * width))
+
+  records-append : recordsOf width (a ++ b) ≡ recordsOf width a ++ recordsOf width b
+  unfolding recordsOf
+  records-append =
+      let n = length a / width in
+      let many : length (a ++ b) / width ≡ n + length b / width =
+      ap (λ (k : ℕ). k / width) (length-append a b ∙ ap (λ (k : ℕ). k + length b) (whole-length width a e)) ∙ mul-add-div-right some-width n (length b)
+      in
+      rw (many, tab-append n (length b / width) (λ i. take width (drop (i * width) (a ++ b))))
+      (ap₂ (λ (l m : List (List ℕ)). l ++ m)
+      (tab-same n (λ i. take width (drop (i * width) (a ++ b))) (λ i. take width (drop (i * width) a)) record-front)
+      (tab-same (length b / width) (λ i. take width (drop ((n + i) * width) (a ++ b))) (λ i. take width (drop (i * width) b)) λ i h. record-back i))
+
+  leftover-rest : leftover width (a ++ b) ≡ leftover width b
+  unfolding leftover
+  leftover-rest =
+      let rest : length (a ++ b) % width ≡ length b % width =
+      ap (λ (k : ℕ). k % width) (length-append a b ∙ ap (λ (k : ℕ). k + length b) (whole-length width a e)) ∙ mul-add-mod-self-right (length a / width) width (length b)
+      in
+      ap (λ (n : ℕ). fault (refuse 13 (not (eqb n 0)) ∷ [])) rest
+
+  pub whole-append : length b % width ≡ 0 → length (a ++ b) % width ≡ 0
+  whole-append f =
+      ap (λ (k : ℕ). k % width) (length-append a b ∙ ap (λ (k : ℕ). k + length b) (whole-length width a e)) ∙ mul-add-mod-self-right (length a / width) width (length b) ∙ f
+
+-- ---- bytes left over
+
+pub leftover-none : (width : ℕ) (a : List ℕ) → length a % width ≡ 0 → leftover width a ≡ none
+unfolding leftover fault
+leftover-none width a e = rw (eq-eqb (length a % width) 0 e)
+
+leftover-whole : (width : ℕ) (a : List ℕ) → leftover width a ≡ none → length a % width ≡ 0
+unfolding leftover fault
+leftover-whole width a e = go (which (eqb (length a % width) 0))
+  where
+    go : (eqb (length a % width) 0 ≡ true) ⊎ (eqb (length a % width) 0 ≡ false) → length a % width ≡ 0
+    go (inl t) = eqb-true (length a % width) 0 t
+    go (inr f) = absurd (Option·some-ne-none 13 (rw f at e))
 
 -- ---- turns
 
@@ -88,24 +117,6 @@ unfolding andThen finish
 finish-then left t u (refused n) e = rw e
 finish-then left t u (success n) e = refl
 
-pub leftover-none : (a : List ℕ) → length a % 32 ≡ 0 → leftover a ≡ none
-unfolding leftover fault
-leftover-none a e = rw (eq-eqb (length a % 32) 0 e)
-
-leftover-rest : (a b : List ℕ) → length a % 32 ≡ 0 → leftover (a ++ b) ≡ leftover b
-unfolding leftover
-leftover-rest a b e =
-    let rest : length (a ++ b) % 32 ≡ length b % 32 = rw length-append (omega arith) in
-    ap (λ (n : ℕ). fault (refuse 13 (not (eqb n 0)) ∷ [])) rest
-
-leftover-whole : (a : List ℕ) → leftover a ≡ none → length a % 32 ≡ 0
-unfolding leftover fault
-leftover-whole a e = go (which (eqb (length a % 32) 0))
-  where
-    go : (eqb (length a % 32) 0 ≡ true) ⊎ (eqb (length a % 32) 0 ≡ false) → length a % 32 ≡ 0
-    go (inl t) = eqb-true (length a % 32) 0 t
-    go (inr f) = absurd (Option·some-ne-none 13 (rw f at e))
-
 none-left : (left : Option ℕ) (t : Turn ℕ) (o : Answer ℕ) (n : ℕ) → t .answer ≡ o
     → andThen t o (record { library = t .library; answer = unless left (t .answer) }) .answer ≡ success n → left ≡ none
 unfolding andThen unless
@@ -114,42 +125,44 @@ none-left none t (success m) n a e = refl
 none-left (some k) t (success m) n a e = absurd (let z : _≡_ {A = ℕ} 0 1 = cc in omega arith)
 
 module _ (s : GridSearch) where
-  pub insert-append : (l : Library) (rs qs : List Record)
+  pub insert-append : (l : Library) (rs qs : List (List ℕ))
       → insertAll s l (rs ++ qs) ≡ andThen (insertAll s l rs) (insertAll s l rs .answer) (insertAll s (insertAll s l rs .library) qs)
   unfolding insertAll
   insert-append l [] qs = none-then l qs
     where
-      none-then : (k : Library) (ps : List Record) → insertAll s k ps ≡ andThen (record { library = k; answer = success (k .used) }) (success (k .used)) (insertAll s k ps)
+      none-then : (k : Library) (ps : List (List ℕ)) → insertAll s k ps ≡ andThen (record { library = k; answer = success (k .used) }) (success (k .used)) (insertAll s k ps)
       none-then k ps = refl
   insert-append l (r ∷ rs) qs =
-      let t = insertion s l (r .id) (placeOf (s .ndim) r) in
+      let t = insertRecord s l r in
       then-then t (insertAll s (t .library) rs) (λ k. insertAll s k qs) (insertAll s (t .library) (rs ++ qs)) (t .answer) refl (insert-append (t .library) rs qs)
 
-  pub bytes-are : (l : Library) (a : List ℕ) → insertBytes s l a ≡ finish (leftover a) (insertAll s l (recordsOf a))
+  pub bytes-are : (width : ℕ) (l : Library) (a : List ℕ) → insertBytes width s l a ≡ finish (leftover width a) (insertAll s l (recordsOf width a))
   unfolding insertBytes
-  bytes-are l a = refl
+  bytes-are width l a = refl
 
   -- no bytes are left over: the turn is that of the marks
-  whole-records : (l : Library) (a : List ℕ) → length a % 32 ≡ 0 → insertBytes s l a ≡ insertAll s l (recordsOf a)
+  whole-records : (width : ℕ) (l : Library) (a : List ℕ) → length a % width ≡ 0 → insertBytes width s l a ≡ insertAll s l (recordsOf width a)
   unfolding insertBytes finish unless
-  whole-records l a e = rw (leftover-none a e) (finish-none (insertAll s l (recordsOf a)) (insertAll s l (recordsOf a) .answer) refl)
+  whole-records width l a e = rw (leftover-none width a e) (finish-none (insertAll s l (recordsOf width a)) (insertAll s l (recordsOf width a) .answer) refl)
 
   -- bytes whose marks were all taken, with none left over, are whole records
-  pub stored-whole : (l : Library) (a : List ℕ) (n : ℕ) → insertBytes s l a .answer ≡ success n → length a % 32 ≡ 0
+  pub stored-whole : (width : ℕ) (l : Library) (a : List ℕ) (n : ℕ) → insertBytes width s l a .answer ≡ success n → length a % width ≡ 0
   unfolding insertBytes finish
-  stored-whole l a n e = leftover-whole a (none-left (leftover a) (insertAll s l (recordsOf a)) (insertAll s l (recordsOf a) .answer) n refl e)
+  stored-whole width l a n e =
+      let t = insertAll s l (recordsOf width a) in
+      leftover-whole width a (none-left (leftover width a) t (t .answer) n refl e)
 
   -- a part that is whole records, then the rest of the file
-  pub in-parts : (l : Library) (a b : List ℕ) → length a % 32 ≡ 0
-      → insertBytes s l (a ++ b) ≡ andThen (insertBytes s l a) (insertBytes s l a .answer) (insertBytes s (insertBytes s l a .library) b)
-  in-parts l a b e =
-      let t = insertAll s l (recordsOf a) in
+  pub in-parts : (width : ℕ) → 0 < width → (l : Library) (a b : List ℕ) → length a % width ≡ 0
+      → insertBytes width s l (a ++ b) ≡ andThen (insertBytes width s l a) (insertBytes width s l a .answer) (insertBytes width s (insertBytes width s l a .library) b)
+  in-parts width w l a b e =
+      let t = insertAll s l (recordsOf width a) in
       rw (
-        bytes-are l (a ++ b),
-        leftover-rest a b e,
-        records-append a b e,
-        insert-append l (recordsOf a) (recordsOf b),
-        whole-records l a e,
-        bytes-are (t .library) b,
+        bytes-are width l (a ++ b),
+        leftover-rest width w a b e,
+        records-append width w a b e,
+        insert-append l (recordsOf width a) (recordsOf width b),
+        whole-records width l a e,
+        bytes-are width (t .library) b,
       )
-      (finish-then (leftover b) t (insertAll s (t .library) (recordsOf b)) (t .answer) refl)
+      (finish-then (leftover width b) t (insertAll s (t .library) (recordsOf width b)) (t .answer) refl)

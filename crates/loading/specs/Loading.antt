@@ -5,20 +5,20 @@ use mathlib.Core.Bool.{not}
 use mathlib.Core.Option.{Option, none, some}
 use mathlib.Core.List.{List, [], _∷_}
 use lib.Dec.{eqb}
-use lib.ListN.{length}
+use lib.ListN.{length, take, drop}
 use lib.Ieee.{Float}
 use Rattle.basics.specs.Lists.{tab}
 use Rattle.basics.specs.Refusals.{Test, refuse, fault, Answer, refused, success}
-use Rattle.geometry.specs.declared.Position.{Position}
 use Rattle.geometry.specs.Position.{coords, dimension}
 use Rattle.grid_search.specs.declared.GivenU64.the-variants as number
 use Rattle.grid_search.specs.declared.GivenF64.the-variants as float
 use Rattle.grid_search.specs.declared.GridSearch.{GridSearch}
 use Rattle.grid_search.specs.Sheet.{newSheet}
-use Rattle.rows.specs.Library.{Library, Turn}
-use Rattle.rows.specs.Insert.{insertion}
+use Rattle.rows.specs.declared.Inserted.{Inserted}
+use Rattle.table.specs.Library.{Library}
+use Rattle.rows.specs.Insert.{Turn, insertion, Gives}
 use Rattle.records.specs.declared.Record.{Record}
-use Rattle.records.specs.Records.{recordAt}
+use Rattle.records.specs.Records.{recordAt, reading}
 
 -- the floats of a record on the first n axes: in 2D the third is not read
 abbrev pub placeOf : ℕ → Record → List Float
@@ -36,9 +36,9 @@ unfoldable pub unless : {A : Type 0} → Option ℕ → Answer A → Answer A
 unless none a = a
 unless (some n) a = refused n
 
-unfoldable pub sheetOf : List ℕ → Answer GridSearch
+unfoldable pub sheetOfRecords : List ℕ → Answer GridSearch
 unfolding unless fault fileTests
-sheetOf bytes =
+sheetOfRecords bytes =
     let low = recordAt bytes 0 in
     let high = recordAt bytes 32 in
     unless (fault (fileTests bytes))
@@ -46,37 +46,52 @@ sheetOf bytes =
 
 -- the sheet of what the file holds; none: a file that is missing or cannot be read
 unfoldable pub sheetIn : Option (List ℕ) → Answer GridSearch
-unfolding sheetOf
+unfolding sheetOfRecords
 sheetIn none = refused 13
-sheetIn (some bytes) = sheetOf bytes
+sheetIn (some bytes) = sheetOfRecords bytes
 
--- ---- marks.bin: a record for each mark
+-- ---- marks: a record of the file's width for each
 
--- the whole records
-unfoldable pub recordsOf : List ℕ → List Record
-recordsOf bytes = tab (length bytes / 32) (λ i. recordAt bytes (32 * i))
+-- the whole records, each as its bytes
+unfoldable pub recordsOf : ℕ → List ℕ → List (List ℕ)
+recordsOf width bytes = tab (length bytes / width) (λ i. take width (drop (i * width) bytes))
+
+-- the mark of a record: 13 where the bytes are none
+unfoldable pub insertMark : GridSearch → Library → Answer Record → Turn ℕ
+unfolding insertion
+insertMark s l (refused n) = record { library = l; answer = refused n }
+insertMark s l (success r) = insertion s l (r .id) (placeOf (s .ndim) r)
+
+unfoldable pub insertRecord : GridSearch → Library → List ℕ → Turn ℕ
+unfolding insertMark reading
+insertRecord s l bytes = insertMark s l (reading bytes)
 
 -- one turn, and the next where it was not turned away
 unfoldable pub andThen : Turn ℕ → Answer ℕ → Turn ℕ → Turn ℕ
 andThen t (refused n) next = t
 andThen t (success n) next = next
 
--- each mark inserted in order, up to the first that is turned away
-unfoldable pub insertAll : GridSearch → Library → List Record → Turn ℕ
-unfolding andThen
+-- each record in order, up to the first that is turned away
+unfoldable pub insertAll : GridSearch → Library → List (List ℕ) → Turn ℕ
+unfolding andThen insertRecord
 insertAll s l [] = record { library = l; answer = success (l .used) }
-insertAll s l (r ∷ rs) = let t = insertion s l (r .id) (placeOf (s .ndim) r) in andThen t (t .answer) (insertAll s (t .library) rs)
+insertAll s l (r ∷ rs) = let t = insertRecord s l r in andThen t (t .answer) (insertAll s (t .library) rs)
 
 -- bytes past the last whole record: 13
-unfoldable pub leftover : List ℕ → Option ℕ
+unfoldable pub leftover : ℕ → List ℕ → Option ℕ
 unfolding fault
-leftover bytes = fault (refuse 13 (not (eqb (length bytes % 32) 0)) ∷ [])
+leftover width bytes = fault (refuse 13 (not (eqb (length bytes % width) 0)) ∷ [])
 
 -- and they are judged after the marks
 unfoldable pub finish : Option ℕ → Turn ℕ → Turn ℕ
 unfolding andThen unless
 finish left t = andThen t (t .answer) (record { library = t .library; answer = unless left (t .answer) })
 
-unfoldable pub insertBytes : GridSearch → Library → List ℕ → Turn ℕ
+unfoldable pub insertBytes : ℕ → GridSearch → Library → List ℕ → Turn ℕ
 unfolding finish leftover insertAll recordsOf
-insertBytes s l bytes = finish (leftover bytes) (insertAll s l (recordsOf bytes))
+insertBytes width s l bytes = finish (leftover width bytes) (insertAll s l (recordsOf width bytes))
+
+-- What is returned, and what the lists hold once bytes are inserted. After a refusal the rows in use are those of the marks before
+-- it: `lists` is the library at exit but for that count.
+abbrev pub Inserts : Turn ℕ → Inserted → (ℕ → Library) → Type 0
+Inserts t r lists = Gives t r (lists (t .library .used))

@@ -1,23 +1,25 @@
-// A sheet and marks from the bytes of their files: 32-byte records, as `records` has them.
-ghost use Prim.Native.Nat.{_≤_};
+// A sheet and marks from the bytes of their files, which are records as `records` has them.
+ghost use Prim.Native.Nat.{_/_, _≤_};
 ghost use mathlib.Core.Path.{_≡_};
+ghost use lib.ListN.{length};
 ghost use Rattle.geometry.specs.declared.Position.{Position};
 ghost use Rattle.geometry.specs.Position.{coords};
 ghost use Rattle.grid_search.specs.Sheet.{made};
-ghost use Rattle.rows.specs.Library.{library};
-ghost use Rattle.rows.specs.Insert.{insertion, Gives};
-ghost use Rattle.loading.specs.Loading.{placeOf, sheetOf, insertBytes};
+ghost use Rattle.table.specs.Library.{library};
+ghost use Rattle.rows.specs.Insert.{insertion, usedAfter, Gives};
+ghost use Rattle.loading.specs.Loading.{placeOf, sheetOfRecords, insertRecord, insertBytes, Inserts};
 use grid_search::GivenF64;
 use grid_search::GivenU64;
 use grid_search::GridSearch;
 use grid_search::Made;
+use records::ReadRecord;
 use records::Record;
 use rows::Inserted;
 use table::ItemId;
 
 // The sheet of two records: dimension and low corner, divisions and high corner. In 2D the third floats are not read.
 pub fn sheet_of_records(bytes: &[u8]) -> Made
-    ensures { λ r. ⌜ made r ≡ sheetOf (now (bytes .entry)) ⌝ }
+    ensures { λ r. ⌜ made r ≡ sheetOfRecords (now (bytes .entry)) ⌝ }
 {
     if bytes.len() != 64 {
         return Made::Refused(13);
@@ -47,51 +49,81 @@ fn floats_read(ndim: usize) -> usize
 }
 
 // Inserts the mark of a record. In 2D its third float is not read.
-fn insert_record(
+fn insert_mark(
     sheet: GridSearch,
-    keys: &mut [u64],
-    ids: &mut [u64],
-    xs: &mut [f64],
-    ys: &mut [f64],
-    zs: &mut [f64],
+    keys: &mut [u64; 1024],
+    ids: &mut [u64; 1024],
+    xs: &mut [f64; 1024],
+    ys: &mut [f64; 1024],
+    zs: &mut [f64; 1024],
     used: usize,
     mark: Record,
 ) -> Inserted
     ensures { λ r. ⌜ Gives (insertion sheet (library (now (keys .entry)) (now (ids .entry)) (now (xs .entry)) (now (ys .entry)) (now (zs .entry)) used) (mark .id) (placeOf (sheet .ndim) mark))
-        r (now (keys .exit)) (now (ids .exit)) (now (xs .exit)) (now (ys .exit)) (now (zs .exit)) ⌝ }
+        r (library (now (keys .exit)) (now (ids .exit)) (now (xs .exit)) (now (ys .exit)) (now (zs .exit)) (usedAfter r used)) ⌝ }
 {
     let x = [mark.x, mark.y, mark.z];
     let n = floats_read(sheet.ndim);
     rows::insert(sheet, keys, ids, xs, ys, zs, used, ItemId(mark.id), &x[..n])
 }
 
-// Inserts the marks of the whole records in order, up to the first that is turned away; bytes left over are judged last.
-// A file of any length is inserted part by part, each but the last of whole records.
-pub fn insert_records(
+// Inserts the mark of a record of a file: 13 where the bytes are no record.
+pub fn insert_record(
     sheet: GridSearch,
-    keys: &mut [u64],
-    ids: &mut [u64],
-    xs: &mut [f64],
-    ys: &mut [f64],
-    zs: &mut [f64],
+    keys: &mut [u64; 1024],
+    ids: &mut [u64; 1024],
+    xs: &mut [f64; 1024],
+    ys: &mut [f64; 1024],
+    zs: &mut [f64; 1024],
     used: usize,
     bytes: &[u8],
 ) -> Inserted
-    ensures { λ r. ⌜ Gives (insertBytes sheet (library (now (keys .entry)) (now (ids .entry)) (now (xs .entry)) (now (ys .entry)) (now (zs .entry)) used) (now (bytes .entry)))
-        r (now (keys .exit)) (now (ids .exit)) (now (xs .exit)) (now (ys .exit)) (now (zs .exit)) ⌝ }
+    ensures { λ r. ⌜ Gives (insertRecord sheet (library (now (keys .entry)) (now (ids .entry)) (now (xs .entry)) (now (ys .entry)) (now (zs .entry)) used) (now (bytes .entry)))
+        r (library (now (keys .exit)) (now (ids .exit)) (now (xs .exit)) (now (ys .exit)) (now (zs .exit)) (usedAfter r used)) ⌝ }
 {
+    let read = records::read_record(bytes);
+    match read {
+        ReadRecord::Whole(mark) => insert_mark(sheet, keys, ids, xs, ys, zs, used, mark),
+        ReadRecord::Refused(number) => Inserted::Refused(number),
+    }
+}
+
+// How many whole records of a width the bytes hold: none of width 0.
+fn count_records(bytes: &[u8], width: usize) -> usize
+    ensures { λ r. ⌜ r ≡ length (now (bytes .entry)) / width ⌝ }
+{
+    if width == 0 { 0 } else { bytes.len() / width }
+}
+
+// Inserts the marks of the whole records of this width in order, up to the first that is turned away; bytes left over are
+// judged last. A file of any length is inserted part by part, each but the last of whole records.
+pub fn insert_records(
+    sheet: GridSearch,
+    keys: &mut [u64; 1024],
+    ids: &mut [u64; 1024],
+    xs: &mut [f64; 1024],
+    ys: &mut [f64; 1024],
+    zs: &mut [f64; 1024],
+    used: usize,
+    bytes: &[u8],
+    width: usize,
+) -> Inserted
+    ensures { λ r. ⌜ Inserts (insertBytes width sheet (library (now (keys .entry)) (now (ids .entry)) (now (xs .entry)) (now (ys .entry)) (now (zs .entry)) used) (now (bytes .entry)))
+        r (library (now (keys .exit)) (now (ids .exit)) (now (xs .exit)) (now (ys .exit)) (now (zs .exit))) ⌝ }
+{
+    let count = count_records(bytes, width);
     let mut rows = used;
     let mut i = 0;
-    while i < bytes.len() / 32 {
-        let mark = records::record_at(bytes, 32 * i);
-        let answer = insert_record(sheet, keys, ids, xs, ys, zs, rows, mark);
+    while i < count {
+        let at = i * width;
+        let answer = insert_record(sheet, keys, ids, xs, ys, zs, rows, &bytes[at..at + width]);
         let Inserted::Stored(n) = answer else {
             return answer;
         };
         rows = n;
         i += 1;
     }
-    if bytes.len() % 32 != 0 {
+    if count * width != bytes.len() {
         return Inserted::Refused(13);
     }
     Inserted::Stored(rows)

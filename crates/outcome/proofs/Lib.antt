@@ -1,3 +1,4 @@
--- Laws of what is printed.
+-- Laws of what is printed, and examples.
 pub mod Texts
 pub mod Reading
+pub mod Examples

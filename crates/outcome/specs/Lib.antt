@@ -1,3 +1,2 @@
 -- What the program prints, by what its two files hold.
 pub mod Outcome
-pub mod Examples

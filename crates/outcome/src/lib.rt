@@ -1,10 +1,10 @@
-// What the program prints once its files are judged: the text of the library, or the line of a refusal.
+// What a program prints once its marks are judged: the text of the library, or the line of a refusal.
 ghost use Prim.Native.Nat.{_≤_};
-ghost use mathlib.Core.Path.{_≡_};
-ghost use lib.ListN.{length, take};
-ghost use Rattle.rows.specs.Library.{library};
+ghost use mathlib.Core.List.{[], _∷_};
+ghost use lib.ListN.{length};
+ghost use Rattle.table.specs.Library.{library};
 ghost use Rattle.rows.specs.Insert.{inserted};
-ghost use Rattle.display.specs.Display.{refusal};
+ghost use Rattle.text.specs.Text.{refusal, Front};
 ghost use Rattle.outcome.specs.Outcome.{libraryText, outcomeText};
 use display::Shown;
 use grid_search::GridSearch;
@@ -12,10 +12,10 @@ use rows::Inserted;
 
 // The line of a refusal, at the front of the buffer: returns its length.
 pub fn put_refused(number: u64, text: &mut [u8; 70804]) -> usize
-    ensures { λ r. ⌜ (r ≤ length (now (text .exit))) × (r ≡ length (take r (now (text .exit)))) ⌝ }
-    ensures { λ r. ⌜ take r (now (text .exit)) ≡ refusal number ⌝ }
+    ensures { λ r. ⌜ Front (refusal (number ∷ [])) (now (text .exit)) r ⌝ }
 {
-    display::put_refusal(text, number)
+    let numbers = [number];
+    text::put_refusal(text, 0, &numbers)
 }
 
 // The text of a library of at most 1,024 rows: a row takes at most 69 bytes of it and the summary 148, so that it fits.
@@ -30,8 +30,7 @@ fn put_library(
     text: &mut [u8; 70804],
 ) -> usize
     requires { ⌜ length (now keys) ≤ 1024 ⌝ }
-    ensures { λ r. ⌜ (r ≤ length (now (text .exit))) × (r ≡ length (take r (now (text .exit)))) ⌝ }
-    ensures { λ r. ⌜ take r (now (text .exit)) ≡ libraryText sheet (library (now (keys .entry)) (now (ids .entry)) (now (xs .entry)) (now (ys .entry)) (now (zs .entry)) used) ⌝ }
+    ensures { λ r. ⌜ Front (libraryText sheet (library (now (keys .entry)) (now (ids .entry)) (now (xs .entry)) (now (ys .entry)) (now (zs .entry)) used)) (now (text .exit)) r ⌝ }
 {
     let shown = display::display(sheet, keys, ids, xs, ys, zs, used, text);
     match shown {
@@ -52,8 +51,7 @@ pub fn put_outcome(
     answer: Inserted,
     text: &mut [u8; 70804],
 ) -> usize
-    ensures { λ r. ⌜ (r ≤ length (now (text .exit))) × (r ≡ length (take r (now (text .exit)))) ⌝ }
-    ensures { λ r. ⌜ take r (now (text .exit)) ≡ outcomeText sheet (library (now (keys .entry)) (now (ids .entry)) (now (xs .entry)) (now (ys .entry)) (now (zs .entry)) 0) (inserted answer) ⌝ }
+    ensures { λ r. ⌜ Front (outcomeText sheet (library (now (keys .entry)) (now (ids .entry)) (now (xs .entry)) (now (ys .entry)) (now (zs .entry))) (inserted answer)) (now (text .exit)) r ⌝ }
 {
     match answer {
         Inserted::Stored(used) => put_library(sheet, keys, ids, xs, ys, zs, used, text),

@@ -1,5 +1,6 @@
-// Document 01's 'Positions tried' through the public functions: a line for each, in the document's order. What it has to
-// write is made by gemlab (compare/stored/positions.rs).
+// Document 01's 'Positions tried' through the public functions: a line for each, in the document's order; then root,
+// truncation and rounding up at their edges. What it has to write is made by gemlab (compare/stored/positions.rs).
+mod printing;
 
 fn say(what: &[u8]) {
     io::write_all(1, what);
@@ -22,6 +23,16 @@ fn accepted(number: u64) {
 
 fn root(x: f64) {
     printing::print_float(floats::sqrt(x));
+    say(b"\n");
+}
+
+fn truncation(x: f64) {
+    io::print_decimal(1, floats::truncated(x));
+    say(b"\n");
+}
+
+fn rounding_up(x: f64) {
+    printing::print_float(floats::ceil(x));
     say(b"\n");
 }
 
@@ -507,6 +518,42 @@ fn triangles() {
     percentage(&right, 0, 0.0);
 }
 
+// Module 1 at its edges.
+fn roots() {
+    say(b"root of 2: ");
+    root(2.0);
+    say(b"root of 0: ");
+    root(0.0);
+    say(b"root of -0: ");
+    root(-0.0);
+    say(b"root of -1: ");
+    root(-1.0);
+    say(b"root of infinity: ");
+    root(1.0 / 0.0);
+}
+
+fn truncations() {
+    say(b"truncation of 7.9375: ");
+    truncation(7.9375);
+    say(b"truncation of -7.9375: ");
+    truncation(-7.9375);
+    say(b"truncation of infinity: ");
+    truncation(1.0 / 0.0);
+    say(b"truncation of NaN: ");
+    truncation(0.0 / 0.0);
+}
+
+fn roundings_up() {
+    say(b"rounding up of 2.5: ");
+    rounding_up(2.5);
+    say(b"rounding up of -2.5: ");
+    rounding_up(-2.5);
+    say(b"rounding up of -0.5: ");
+    rounding_up(-0.5);
+    say(b"rounding up of 3: ");
+    rounding_up(3.0);
+}
+
 fn main() {
     say(b"root of 2.25: ");
     root(2.25);
@@ -520,4 +567,7 @@ fn main() {
     say(b"circle of centre (4, 2) and radius 1, (4, 2): ");
     circle(4.0, 2.0);
     triangles();
+    roots();
+    truncations();
+    roundings_up();
 }

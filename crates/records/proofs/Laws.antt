@@ -1,19 +1,17 @@
--- Laws of numbers, floats and records in bytes.
+-- Laws of numbers and floats in bytes.
 -- Assumes nothing.
-use Prim.Native.Nat.{ℕ, zero, suc, _+_, _-_, _*_, _/_, _%_, _≤_, _<_}
-use native.Mathlib.Numerals.{add-one, sub-one}
+use Prim.Native.Nat.{ℕ, suc, _+_, _*_, _%_, _≤_, _<_}
+use native.Mathlib.Numerals.{add-one}
 use native.Mathlib.Omega.{arith}
-use mathlib.Core.Path.{_≡_, refl, sym, ap, _∙_}
+use mathlib.Core.Path.{_≡_, refl, sym, _∙_}
 use mathlib.Core.Bool.{true, false, false≢true}
 use mathlib.Core.List.{List, _∷_}
 use borrow.Author.Tests.{lt-ltb, le-ltb}
-use lib.ListN.{length, getD, take, drop, set, length-append}
-use lib.Seq.{drop-cons, sets}
-use lib.Ieee.{Float, nan, inf, fin, binary64, ofBits, toBits, isNan, nanBits}
+use lib.ListN.{length, getD, take, drop}
+use lib.Seq.{drop-cons}
+use lib.Ieee.{Float, nan, inf, fin, binary64, ofBits, isNan, nanBits}
 use lib.Ieee.Bits.{nanBits-is, nanBits-above}
-use Rattle.basics.proofs.Stores.{sets-whole}
-use Rattle.records.specs.declared.Record.{Record}
-use Rattle.records.specs.Records.{littleEndian, numberAt, bytesOf, floatBytes, recordBytes}
+use Rattle.records.specs.Records.{littleEndian, numberAt}
 
 -- ---- numbers
 
@@ -45,18 +43,6 @@ number-of l at h =
     )
     (omega arith)
 
--- a byte stored, and the others after it
-pub store-one : (l : List ℕ) (to left n : ℕ) → 0 < left
-    → sets (set l to (n % 256)) (to + 1) (bytesOf (left - 1) (n / 256)) ≡ sets l to (bytesOf left n)
-unfolding bytesOf
-store-one l to zero n h = absurd (omega arith)
-store-one l to (suc k) n h = rw (sub-one, add-one)
-
-pub store-none : (l : List ℕ) (to left n : ℕ) → left ≤ 0 → l ≡ sets l to (bytesOf left n)
-unfolding bytesOf
-store-none l to zero n h = refl
-store-none l to (suc k) n h = absurd (omega arith)
-
 -- ---- floats
 
 pub is-nan : (x : Float) → isNan x ≡ true → x ≡ nan
@@ -71,24 +57,3 @@ above-nan b h = is-nan _ (sym (nanBits-is binary64 b) ∙ nanBits-above binary64
 
 pub below-not : (b : ℕ) → b % 0x8000_0000_0000_0000 ≤ 0x7ff0_0000_0000_0000 → nanBits binary64 b ≡ false
 below-not b h = nanBits-above binary64 b ∙ le-ltb _ _ h
-
--- ---- records
-
-length-bytes : (k n : ℕ) → length (bytesOf k n) ≡ k
-unfolding bytesOf
-length-bytes zero n = refl
-length-bytes (suc k) n = ap suc (length-bytes k (n / 256))
-
-pub length-record : (r : Record) → length (recordBytes r) ≡ 32
-unfolding recordBytes floatBytes
-length-record r = simp (length-append, length-bytes)
-
--- four numbers written one after the other are the record
-pub four : (r : Record) (l : List ℕ) → length l ≡ 32
-    → sets
-    (sets (sets (sets l 0 (bytesOf 8 (r .id))) 8 (bytesOf 8 (toBits binary64 (r .x)))) 16 (bytesOf 8 (toBits binary64 (r .y))))
-    24
-    (bytesOf 8 (toBits binary64 (r .z)))
-    ≡ recordBytes r
-unfolding recordBytes floatBytes bytesOf
-four r l e = sets-whole (recordBytes r) l (length-record r ∙ sym e)

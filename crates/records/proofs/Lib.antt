@@ -1,3 +1,3 @@
--- Laws that callers' proofs cite.
+-- Laws that callers' proofs cite, and examples.
 pub mod Laws
-pub mod RoundTrip
+pub mod Examples

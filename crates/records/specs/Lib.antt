@@ -1,3 +1,2 @@
 -- The words of the contracts of file records: numbers, floats and records in bytes.
 pub mod Records
-pub mod Examples

@@ -2,9 +2,7 @@
 ghost use Prim.Native.Nat.{_+_, _≤_, _<_};
 ghost use mathlib.Core.Path.{_≡_};
 ghost use lib.ListN.{length};
-ghost use lib.Seq.{sets};
-ghost use lib.Ieee.{binary64, toBits};
-ghost use Rattle.records.specs.Records.{numberAt, floatAt, recordAt, bytesOf, floatBytes, recordBytes, readAnswer, reading, Writes};
+ghost use Rattle.records.specs.Records.{numberAt, floatAt, recordAt, readAnswer, reading};
 
 // A record as it stands in a file: its number, and three floats of any value.
 pub struct Record {
@@ -17,12 +15,6 @@ pub struct Record {
 // What `read_record` answers.
 pub enum ReadRecord {
     Whole(Record),
-    Refused(u64),
-}
-
-// What `write_record` answers.
-pub enum Wrote {
-    Done,
     Refused(u64),
 }
 
@@ -80,43 +72,4 @@ pub fn read_record(bytes: &[u8]) -> ReadRecord
         return ReadRecord::Refused(13);
     }
     ReadRecord::Whole(record_at(bytes, 0))
-}
-
-fn put_number(bytes: &mut [u8], at: usize, n: u64)
-    requires { ⌜ at + 8 ≤ length (now bytes) ⌝ }
-    ensures { λ _. ⌜ now (bytes .exit) ≡ sets (now (bytes .entry)) at (bytesOf 8 n) ⌝ }
-{
-    let mut to = at;
-    let mut rest = n;
-    let mut left: u64 = 8;
-    while left > 0 {
-        bytes[to] = (rest % 256) as u8;
-        rest = rest / 256;
-        to = to + 1;
-        left = left - 1;
-    }
-}
-
-fn float_bits(x: f64) -> u64
-    ensures { λ r. ⌜ r ≡ toBits binary64 x ⌝ }
-{
-    if x == x {
-        f64::to_bits(x)
-    } else {
-        0x7ff8_0000_0000_0000
-    }
-}
-
-// Writes the record over the bytes: 13 where they are not 32.
-pub fn write_record(record: Record, bytes: &mut [u8]) -> Wrote
-    ensures { λ r. ⌜ Writes «record» (now (bytes .entry)) r (now (bytes .exit)) ⌝ }
-{
-    if bytes.len() != 32 {
-        return Wrote::Refused(13);
-    }
-    put_number(bytes, 0, record.id);
-    put_number(bytes, 8, float_bits(record.x));
-    put_number(bytes, 16, float_bits(record.y));
-    put_number(bytes, 24, float_bits(record.z));
-    Wrote::Done
 }

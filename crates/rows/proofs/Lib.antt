@@ -1,4 +1,5 @@
--- Laws of a library: its check, and what an insertion gives.
+-- Laws of a library: its check, what an insertion gives, and that it leaves a library that passes its check.
 pub mod Check
 pub mod Targets
+pub mod Kept
 pub mod Answers

@@ -4,11 +4,11 @@ use Prim.Native.Nat.{ℕ, zero, suc, _+_, _/_, _%_, _^_, _≤_, _<_}
 use native.Mathlib.Numerals.{add-one}
 use native.Mathlib.Omega.{arith}
 use mathlib.Core.Path.{_≡_, refl, sym, ap, ap₂, _∙_, subst}
-use mathlib.Core.Bool.{Bool, true, false, cond, not, _&&_, _||_, or-true, or-false, or-assoc}
+use mathlib.Core.Bool.{Bool, true, false, cond, not, _||_, or-true, or-false, or-assoc}
 use mathlib.Core.Option.{Option, none, some}
 use mathlib.Core.List.{List, [], _∷_, _++_, map}
 use lib.Dec.{eqb}
-use lib.ListN.{length, take, drop, set, drop-of-length-le}
+use lib.ListN.{length, take, drop, set, drop-of-length-le, length-set}
 use lib.Seq.{take-suc-set}
 use lib.Ieee.{Float}
 use borrow.Author.Tests.{eq-eqb, eqb-true}
@@ -19,7 +19,7 @@ use Rattle.basics.specs.Refusals.{fault, code}
 use Rattle.floats.specs.Rounded.{_⊕_, _⊖_}
 use Rattle.geometry.specs.declared.Position.{Position}
 use Rattle.geometry.specs.Position.{coords, positionOf, coordinate, dimension}
-use Rattle.geometry.proofs.Axes.{coords-of}
+use Rattle.geometry.proofs.Axes.{coords-of, coords-length, corners-most}
 use Rattle.grid.specs.declared.ContainerKey.{ContainerKey}
 use Rattle.grid.specs.declared.Located.{Located}
 use Rattle.grid.specs.declared.Located.the-variants.{Key, Exceeds}
@@ -28,11 +28,11 @@ use Rattle.grid.specs.Containers.{outside, located}
 use Rattle.grid_search.specs.declared.GridSearch.{GridSearch}
 use Rattle.grid_search.specs.Sheet.{toleranceOf}
 use Rattle.table.specs.declared.Row.{Row}
-use Rattle.table.specs.Rows.{Slot, slotOf, sorted, putIn}
+use Rattle.table.specs.Rows.{slotOf, sorted, putIn}
 use Rattle.table.proofs.All.{sorted-all}
 use Rattle.table.proofs.Ids.{rows-ext, rowFor-putIn}
 use Rattle.rows.specs.Insert.{outsideSheet, overshoots, containerOf, corner, halo, points, targets, rowsWith, positionTests}
-use Rattle.rows.specs.Posts.{joined, look, lookAll, front, Added, Found}
+use Rattle.rows.specs.Posts.{Divided, joined, look, lookAll, front, Added, FoundTargets}
 
 -- ---- 2, 3, 11
 
@@ -45,17 +45,17 @@ module _ (s : GridSearch) (x : List Float) where
   unfolding positionTests fault any code
   bad-coordinates l c = rw (eq-eqb (length x) (s .ndim) l, c)
 
-  module _ (d : dimension (s .ndim) ≡ true) (l : length x ≡ s .ndim) where
+  module _ (d : dimension (s .ndim) ≡ true) (l : length x ≡ s .ndim) (p : Position) (r : p ≡ positionOf x) where
     -- the position as the code has it
-    outside-is : outside (coords (s .ndim) (s .xmin)) (coords (s .ndim) (s .xmax)) (coords (s .ndim) (positionOf x)) ≡ outsideSheet s x
+    outside-is : outside (coords (s .ndim) (s .xmin)) (coords (s .ndim) (s .xmax)) (coords (s .ndim) p) ≡ outsideSheet s x
     unfolding outsideSheet
-    outside-is = ap (outside (coords (s .ndim) (s .xmin)) (coords (s .ndim) (s .xmax))) (coords-of (s .ndim) x (positionOf x) d l refl)
+    outside-is = ap (outside (coords (s .ndim) (s .xmin)) (coords (s .ndim) (s .xmax))) (coords-of (s .ndim) x p d l r)
 
-    pub bad-place : all coordinate x ≡ true → outside (coords (s .ndim) (s .xmin)) (coords (s .ndim) (s .xmax)) (coords (s .ndim) (positionOf x)) ≡ true → 11 ≡ code (fault (positionTests s x []))
+    pub bad-place : all coordinate x ≡ true → outside (coords (s .ndim) (s .xmin)) (coords (s .ndim) (s .xmax)) (coords (s .ndim) p) ≡ true → 11 ≡ code (fault (positionTests s x []))
     unfolding positionTests fault any code
     bad-place c o = rw (eq-eqb (length x) (s .ndim) l, c, sym outside-is ∙ o)
 
-    pub placed : all coordinate x ≡ true → outside (coords (s .ndim) (s .xmin)) (coords (s .ndim) (s .xmax)) (coords (s .ndim) (positionOf x)) ≡ false → 0 ≡ code (fault (positionTests s x []))
+    pub placed : all coordinate x ≡ true → outside (coords (s .ndim) (s .xmin)) (coords (s .ndim) (s .xmax)) (coords (s .ndim) p) ≡ false → 0 ≡ code (fault (positionTests s x []))
     unfolding positionTests fault any code
     placed c o = rw (eq-eqb (length x) (s .ndim) l, c, sym outside-is ∙ o)
 
@@ -126,7 +126,7 @@ corner-is t x c a b d p q r n = rw (p, q, r) (take-corner t n (x .x ∷ x .y ∷
 -- ---- the walk over the halo, from the position's own container on
 
 module _ (s : GridSearch) where
-  pub look-none : (ps : List (List Float)) → lookAll s none ps ≡ none
+  look-none : (ps : List (List Float)) → lookAll s none ps ≡ none
   unfolding lookAll
   look-none [] = refl
   look-none (p ∷ ps) = refl
@@ -140,7 +140,7 @@ module _ (s : GridSearch) where
   look-end ks = refl
 
   module _ (x : List Float) (hs : List (List Float)) (o : outsideSheet s x ≡ false) where
-    pub walk-start : {key : ContainerKey} (l : List ℕ) → 0 < length l → (overshoots s x ≡ false) × (containerOf s x ≡ key .0)
+    walk-start : {key : ContainerKey} (l : List ℕ) → 0 < length l → (overshoots s x ≡ false) × (containerOf s x ≡ key .0)
         → lookAll s (some (take 1 (set l 0 (key .0)))) hs ≡ lookAll s (some []) (x ∷ hs)
     unfolding look joined
     walk-start {key} l h f = sym (look-next [] x hs ∙ ap (λ (k : Option (List ℕ)). lookAll s k hs) (rw (o, f .0, f .1) (ap some (sym (take-suc-set l 0 (key .0) h)))))
@@ -150,18 +150,80 @@ module _ (s : GridSearch) where
     walk-exceeds e = sym (look-next [] x hs ∙ rw (o, e) (look-none hs))
 
   module _ (t : Float) (x : List Float) (c : ℕ) (ks : List ℕ) where
-    pub walk-turn : c < 2 ^ length x → lookAll s (some ks) (drop c (halo t x)) ≡ lookAll s (look s ks (corner t x c)) (drop (c + 1) (halo t x))
+    walk-turn : c < 2 ^ length x → lookAll s (some ks) (drop c (halo t x)) ≡ lookAll s (look s ks (corner t x c)) (drop (c + 1) (halo t x))
     unfolding halo
     walk-turn h = ap (lookAll s (some ks)) (drop-tab (2 ^ length x) (corner t x) c h) ∙ look-next ks (corner t x c) (drop (suc c) (halo t x)) ∙ rw add-one
 
-    pub walk-end : 2 ^ length x ≤ c → lookAll s (some ks) (drop c (halo t x)) ≡ some ks
+    walk-end : 2 ^ length x ≤ c → lookAll s (some ks) (drop c (halo t x)) ≡ some ks
     unfolding halo
     walk-end h = ap (lookAll s (some ks)) (drop-of-length-le (tab (2 ^ length x) (corner t x)) {i = c} (rw length-tab h)) ∙ look-end (some ks)
 
     -- a turn of the code's walk
-    pub walk-again : {p : List Float} {n r : ℕ} {l l′ : List ℕ} → c < 2 ^ length x → p ≡ corner t x c → take n l ≡ ks → Added s p n l r l′
+    walk-again : {p : List Float} {n r : ℕ} {l l′ : List ℕ} → c < 2 ^ length x → p ≡ corner t x c → take n l ≡ ks → Added s p n l r l′
         → lookAll s (some ks) (drop c (halo t x)) ≡ lookAll s (front r l′) (drop (c + 1) (halo t x))
     walk-again h e k a = walk-turn h ∙ ap (λ (o : Option (List ℕ)). lookAll s o (drop (c + 1) (halo t x))) (sym (a .found ∙ ap₂ (λ (ls : List ℕ) (q : List Float). look s ls q) k e))
+
+-- ---- the loop over the corners: c of them are done, and n containers stand at the front of the list
+
+-- what is left of the halo, looked at with the containers found so far, gives what all of it gives
+pub record Looked (s : GridSearch) (t : Float) (x : List Float) (corners : ℕ) (first into : List ℕ) (n c : ℕ) : Type 0 where
+  pub upto : c ≤ corners
+  pub one : 1 ≤ n
+  pub most : n ≤ c + 1
+  pub wide : corners < length into
+  pub long : length into ≡ length first
+  pub rest : lookAll s (some (take n into)) (drop c (halo t x)) ≡ lookAll s (some []) (x ∷ halo t x)
+
+module _ (s : GridSearch) (p : Position) (d : Divided s) {t : Float} (g : t ≡ toleranceOf (s .tolerance)) {corners : ℕ} (k : corners ≡ 2 ^ s .ndim) where
+  abbrev x : List Float
+  x = coords (s .ndim) p
+
+  corners-are : corners ≡ 2 ^ length x
+  corners-are = k ∙ ap (λ (m : ℕ). 2 ^ m) (sym (coords-length (s .ndim) p (d .axes)))
+
+  pub looked-start : {key : ContainerKey} (l : List ℕ) → 9 ≤ length l → outsideSheet s x ≡ false → (overshoots s x ≡ false) × (containerOf s x ≡ key .0)
+      → Looked s t x corners (set l 0 (key .0)) (set l 0 (key .0)) 1 0
+  looked-start {key} l h o f = record {
+    upto = omega arith;
+    one = omega arith;
+    most = omega arith;
+    wide = omega (arith, corners-most (s .ndim) (d .axes), length-set l 0 (key .0));
+    long = refl;
+    rest = walk-start s x (halo t x) o l (omega arith) f;
+  }
+
+  module _ {first into : List ℕ} {n c : ℕ} (w : Looked s t x corners first into n c) where
+    whole-is : {ks : Option (List ℕ)} → ks ≡ lookAll s (some []) (x ∷ halo t x) → ks ≡ lookAll s (some []) (x ∷ halo (toleranceOf (s .tolerance)) x)
+    whole-is e = e ∙ ap (λ (u : Float). lookAll s (some []) (x ∷ halo u x)) g
+
+    pub looked-end : corners ≤ c → FoundTargets s x n into
+    looked-end h = record {
+      most = omega (arith, w .most, w .wide, w .upto);
+      found = whole-is (front-some n into (w .one) ∙ sym (walk-end s t x c (take n into) (omega (arith, corners-are))) ∙ w .rest);
+    }
+
+    -- a corner looked at
+    module _ (h : c < corners) {q : List Float} (e : q ≡ corner t x c) {r : ℕ} {l : List ℕ} (a : Added s q n into r l) where
+      next : lookAll s (front r l) (drop (c + 1) (halo t x)) ≡ lookAll s (some []) (x ∷ halo t x)
+      next = sym (walk-again s t x c (take n into) (omega (arith, corners-are)) e refl a) ∙ w .rest
+
+      pub looked-none : r ≡ 0 → FoundTargets s x 0 l
+      looked-none z = record {
+        most = omega arith;
+        found = whole-is (sym (look-none s (drop (c + 1) (halo t x))) ∙ ap (λ (m : ℕ). lookAll s (front m l) (drop (c + 1) (halo t x))) (sym z) ∙ next);
+      }
+
+      pub looked-again : (r ≡ 0 → ⊥) → length l ≡ length into → Looked s t x corners first l r (c + 1)
+      looked-again z m =
+          let pos : 1 ≤ r = omega arith in
+          record {
+            upto = omega arith;
+            one = pos;
+            most = omega (arith, w .most, a .most);
+            wide = omega (arith, w .wide);
+            long = m ∙ w .long;
+            rest = ap (λ (o : Option (List ℕ)). lookAll s o (drop (c + 1) (halo t x))) (sym (front-some r l pos)) ∙ next;
+          }
 
 -- ---- what the whole walk gives
 
@@ -207,7 +269,7 @@ same-rows id at ks js rows o h =
     rows-ext (putIn id at ks rows) (putIn id at js rows) (sorted-all id at ks rows o) (sorted-all id at js rows o)
     (λ p. rowFor-putIn id at ks rows p ∙ rw (h (p .key)) (sym (rowFor-putIn id at js rows p)))
 
-module _ (s : GridSearch) (x : List Float) (o : outsideSheet s x ≡ false) {r : ℕ} {l : List ℕ} (f : Found s x r l) where
+module _ (s : GridSearch) (x : List Float) (o : outsideSheet s x ≡ false) {r : ℕ} {l : List ℕ} (f : FoundTargets s x r l) where
   found-is : front r l ≡ cond (any (overshoots s) (points s x)) none (some (joinAll [] (targets s x)))
   unfolding points targets keep
   found-is = f .found ∙ look-all s (x ∷ halo (toleranceOf (s .tolerance)) x) [] ∙ rw o
@@ -235,12 +297,3 @@ module _ (s : GridSearch) (x : List Float) (o : outsideSheet s x ≡ false) {r :
     pub found-rows : (i : ℕ) (rows : List Row) → sorted (map slotOf rows) ≡ true → putIn i (positionOf x) (take r l) rows ≡ rowsWith s i x rows
     unfolding rowsWith has
     found-rows i rows q = same-rows i (positionOf x) (take r l) (targets s x) rows q (λ k. ap (has k) (found-some .1) ∙ has-join k (targets s x) [])
-
--- ---- the position as the code has it
-
-module _ (s : GridSearch) (x : List Float) (p : Position) (d : dimension (s .ndim) ≡ true) (n : length x ≡ s .ndim) (e : p ≡ positionOf x) where
-  pub read-inside : outsideSheet s x ≡ false → outsideSheet s (coords (s .ndim) p) ≡ false
-  read-inside o = ap (outsideSheet s) (coords-of (s .ndim) x p d n e) ∙ o
-
-  pub read-found : {r : ℕ} {l : List ℕ} → Found s (coords (s .ndim) p) r l → Found s x r l
-  read-found {r} {l} f = subst (λ (y : List Float). Found s y r l) (coords-of (s .ndim) x p d n e) f

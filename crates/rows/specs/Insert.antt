@@ -2,7 +2,7 @@
 -- Assumes nothing.
 use Prim.Native.Nat.{ℕ, _/_, _%_, _^_}
 use mathlib.Core.Path.{_≡_}
-use mathlib.Core.Bool.{Bool, true, false, cond, not, _&&_, _||_}
+use mathlib.Core.Bool.{Bool, cond, not}
 use mathlib.Core.Option.{Option, none, some}
 use mathlib.Core.List.{List, [], _∷_, _++_, map}
 use lib.Dec.{eqb}
@@ -18,7 +18,8 @@ use Rattle.grid_search.specs.declared.GridSearch.{GridSearch}
 use Rattle.grid_search.specs.Sheet.{toleranceOf}
 use Rattle.table.specs.declared.Row.{Row}
 use Rattle.table.specs.Rows.{putIn}
-use Rattle.rows.specs.Library.{Library, table, write, space, roomy, libraryTests, Turn}
+use Rattle.table.specs.Library.{Library, table, write, space, roomy}
+use Rattle.rows.specs.Damage.{libraryTests}
 use Rattle.rows.specs.declared.Inserted.{Inserted}
 use Rattle.rows.specs.declared.Inserted.the-variants.{Stored, Refused}
 
@@ -90,6 +91,11 @@ insertTests s l i x = libraryTests s l ++ (positionTests s x (points s x) ++ roo
 
 -- ---- what it answers and leaves: the number of rows in use, or the refusal and the library as it was
 
+-- a call's answer, and the library as it leaves it
+pub record Turn (A : Type 0) : Type 0 where
+  pub library : Library
+  pub answer : Answer A
+
 unfoldable pub settle : {A : Type 0} → Option ℕ → A → Library → Library → Turn A
 settle none a new old = record { library = new; answer = success a }
 settle (some n) a new old = record { library = old; answer = refused n }
@@ -103,11 +109,12 @@ abbrev pub inserted : Inserted → Answer ℕ
 inserted (Stored n) = success n
 inserted (Refused n) = refused n
 
--- what is returned, and what the five lists hold at exit, is what the definition gives
-pub record Gives (t : Turn ℕ) (r : Inserted) (keys ids : List ℕ) (xs ys zs : List Float) : Type 0 where
+-- how many rows are in use after it
+abbrev pub usedAfter : Inserted → ℕ → ℕ
+usedAfter (Stored n) used = n
+usedAfter (Refused n) used = used
+
+-- what is returned, and the library at exit, is what the definition gives
+pub record Gives (t : Turn ℕ) (r : Inserted) (after : Library) : Type 0 where
   pub answers : inserted r ≡ t .answer
-  pub keys-are : keys ≡ t .library .keys
-  pub ids-are : ids ≡ t .library .ids
-  pub xs-are : xs ≡ t .library .xs
-  pub ys-are : ys ≡ t .library .ys
-  pub zs-are : zs ≡ t .library .zs
+  pub library-is : after ≡ t .library

@@ -1,4 +1,4 @@
--- The words of the contracts of module 6: a library, when it is damaged, and what an insertion answers and leaves.
-pub mod Library
+-- The words of the contracts of module 6: when a library is damaged, and what an insertion answers and leaves.
+pub mod Damage
 pub mod Insert
 pub mod Posts

@@ -3,21 +3,24 @@ use Prim.Native.Nat.{ℕ, zero, suc, _+_, _≤_}
 use mathlib.Core.Path.{_≡_}
 use mathlib.Core.Bool.{Bool, true, cond, _&&_}
 use mathlib.Core.Option.{Option, none, some}
-use mathlib.Core.List.{List, [], _∷_, _++_, map}
-use lib.Dec.{eqb}
+use mathlib.Core.List.{List, [], _∷_, _++_}
+use lib.Dec.{ltb, eqb}
 use lib.ListN.{length, take}
 use lib.Ieee.{Float}
 use Rattle.basics.specs.Lists.{all, has}
+use Rattle.basics.specs.Refusals.{fault}
 use Rattle.floats.specs.Rounded.{zeroF}
 use Rattle.floats.specs.Tests.{sameBits}
-use Rattle.geometry.specs.Position.{coordinate, dimension}
+use Rattle.geometry.specs.Position.{positionOf, coordinate, dimension}
 use Rattle.grid.specs.Divisions.{counts, division}
 use Rattle.grid_search.specs.declared.GridSearch.{GridSearch}
 use Rattle.grid_search.specs.Sheet.{toleranceOf}
-use Rattle.table.specs.declared.Row.{Row}
-use Rattle.table.specs.Rows.{slotOf, sorted}
-use Rattle.rows.specs.Library.{goodRow}
-use Rattle.rows.specs.Insert.{outsideSheet, overshoots, containerOf, halo}
+use Rattle.table.specs.Rows.{sorted, slotsOf, putIn}
+use Rattle.table.specs.Library.{Library, table}
+use Rattle.table.specs.Posts.{Room}
+use Rattle.rows.specs.Insert.{outsideSheet, overshoots, containerOf, halo, rowsWith, insertTests}
+use Rattle.rows.specs.declared.Judged.{Judged}
+use Rattle.rows.specs.declared.Judged.the-variants as judged
 
 abbrev pub plusZero : Float → Bool
 plusZero z = sameBits z zeroF
@@ -26,9 +29,13 @@ plusZero z = sameBits z zeroF
 abbrev pub third : ℕ → Float → Bool
 third n z = cond (eqb n 3) (coordinate z) (plusZero z)
 
--- each row is good by itself, and they are in strict order
-abbrev pub rowsOk : GridSearch → List Row → Bool
-rowsOk s rows = all (goodRow s) rows && sorted (map slotOf rows)
+-- the first n of two lists are slots in strict order, their keys below a count
+abbrev pub slotsOk : ℕ → List ℕ → List ℕ → ℕ → Bool
+slotsOk count keys ids n = all (λ (k : ℕ). ltb k count) (take n keys) && sorted (slotsOf keys ids n)
+
+-- the first n of three lists are coordinates, the third +0 in 2D
+abbrev pub pointsOk : ℕ → List Float → List Float → List Float → ℕ → Bool
+pointsOk ndim xs ys zs n = all coordinate (take n xs) && (all coordinate (take n ys) && all (third ndim) (take n zs))
 
 -- what a container's key is worked out from is in order
 pub record Divided (s : GridSearch) : Type 0 where
@@ -36,13 +43,9 @@ pub record Divided (s : GridSearch) : Type 0 where
   pub divisions : all division (counts (s .ndim) (s .ndiv)) ≡ true
 
 -- what is known of the sheet and the lists when the rows are looked at
-pub record Checked (s : GridSearch) (keys ids : List ℕ) (xs ys zs : List Float) (used : ℕ) : Type 0 where
+pub record Checked (s : GridSearch) (l : Library) : Type 0 where
   pub sheet : Divided s
-  pub in-keys : used ≤ length keys
-  pub in-ids : used ≤ length ids
-  pub in-xs : used ≤ length xs
-  pub in-ys : used ≤ length ys
-  pub in-zs : used ≤ length zs
+  pub room : Room l (l .used)
 
 -- ---- the containers of a mark, each once
 
@@ -74,6 +77,18 @@ pub record Added (s : GridSearch) (p : List Float) (n : ℕ) (l : List ℕ) (r :
   pub found : front r l′ ≡ look s (take n l) p
 
 -- a mark's position and halo looked at, with r containers in the list after
-pub record Found (s : GridSearch) (x : List Float) (r : ℕ) (l′ : List ℕ) : Type 0 where
+pub record FoundTargets (s : GridSearch) (x : List Float) (r : ℕ) (l′ : List ℕ) : Type 0 where
   pub most : r ≤ length l′
   pub found : front r l′ ≡ lookAll s (some []) (x ∷ halo (toleranceOf (s .tolerance)) x)
+
+-- ---- an insertion judged before anything is written
+
+-- it is not turned away, and the mark in each of the first n containers of the list is the mark in each of its containers
+pub record Accepts (s : GridSearch) (l : Library) (i : ℕ) (x : List Float) (n : ℕ) (into : List ℕ) : Type 0 where
+  pub passes : fault (insertTests s l i x) ≡ none
+  pub most : n ≤ length into
+  pub rows-are : putIn i (positionOf x) (take n into) (table l) ≡ rowsWith s i x (table l)
+
+abbrev pub Judges : GridSearch → Library → ℕ → List Float → Judged → List ℕ → Type 0
+Judges s l i x (judged.Into n) into = Accepts s l i x n into
+Judges s l i x (judged.Refused n) into = fault (insertTests s l i x) ≡ some n

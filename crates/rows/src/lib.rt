@@ -1,21 +1,20 @@
 // Module 6: a library of marks on a sheet, in five lent slices: its check, and insertion. From gemlab's
 // `GridSearch::insert`, `update_or_insert` and `set_halo`.
 ghost use mathlib.Core.Path.{_≡_};
-ghost use mathlib.Core.Bool.{true, false, _&&_, cond};
-ghost use mathlib.Core.List.{[], _∷_, map};
-ghost use Prim.Native.Nat.{ℕ, _+_, _%_, _≤_, _<_};
+ghost use mathlib.Core.Bool.{true, false, cond};
+ghost use mathlib.Core.List.{[], _++_};
+ghost use Prim.Native.Nat.{ℕ, _%_, _^_, _≤_, _<_};
 ghost use lib.Dec.{ltb, eqb};
 ghost use lib.ListN.{length, take};
 ghost use Rattle.basics.specs.Lists.{all};
 ghost use Rattle.basics.specs.Refusals.{fault, code};
 ghost use Rattle.floats.specs.Rounded.{_⊕_, _⊖_};
-ghost use Rattle.geometry.specs.Position.{coords, coordinate, dimension};
-ghost use Rattle.grid.specs.Divisions.{counts, division};
-ghost use Rattle.grid_search.specs.Sheet.{sheetOk, toleranceOf};
-ghost use Rattle.table.specs.Rows.{slotOf, slotsOf, rowsOf, sorted, Sound, Ordered};
-ghost use Rattle.rows.specs.Library.{library, tooLong, level, goodRow, libraryTests};
-ghost use Rattle.rows.specs.Insert.{outsideSheet, corner, positionTests, insertion, Gives};
-ghost use Rattle.rows.specs.Posts.{plusZero, rowsOk, Divided, Checked, Added, Found};
+ghost use Rattle.geometry.specs.Position.{coords, dimension};
+ghost use Rattle.table.specs.Library.{library, table, space, tooLong, soundLayout};
+ghost use Rattle.table.specs.Posts.{Rising, lists};
+ghost use Rattle.rows.specs.Damage.{soundRows, libraryTests};
+ghost use Rattle.rows.specs.Insert.{outsideSheet, corner, positionTests, insertion, Gives, usedAfter};
+ghost use Rattle.rows.specs.Posts.{plusZero, slotsOk, pointsOk, Divided, Checked, Added, FoundTargets, Judges};
 use geometry::Position;
 use grid::Located;
 use grid_search::GridSearch;
@@ -30,18 +29,28 @@ pub enum Inserted {
     Refused(u64),
 }
 
-// Whether one of five lists, of these lengths, is too long.
-fn is_too_long(keys: usize, ids: usize, xs: usize, ys: usize, zs: usize) -> bool
-    ensures { λ r. ⌜ r ≡ tooLong (record { rows = keys ∷ ids ∷ xs ∷ ys ∷ zs ∷ [] }) ⌝ }
+// Whether one of the lists is too long.
+fn is_too_long(keys: &[u64], ids: &[u64], xs: &[f64], ys: &[f64], zs: &[f64]) -> bool
+    ensures { λ r. ⌜ r ≡ tooLong (space (lists (now (keys .entry)) (now (ids .entry)) (now (xs .entry)) (now (ys .entry)) (now (zs .entry)))) ⌝ }
 {
-    (MAX_ROWS < keys) | ((MAX_ROWS < ids) | ((MAX_ROWS < xs) | ((MAX_ROWS < ys) | (MAX_ROWS < zs))))
+    (MAX_ROWS < keys.len())
+        | ((MAX_ROWS < ids.len())
+            | ((MAX_ROWS < xs.len()) | ((MAX_ROWS < ys.len()) | (MAX_ROWS < zs.len()))))
 }
 
-// Whether the five lengths are one.
-fn is_level(keys: usize, ids: usize, xs: usize, ys: usize, zs: usize) -> bool
-    ensures { λ r. ⌜ r ≡ level (keys ∷ ids ∷ xs ∷ ys ∷ zs ∷ []) ⌝ }
+// Whether the lists are of one length, and the used count is not above it.
+fn is_layout_sound(
+    keys: &[u64],
+    ids: &[u64],
+    xs: &[f64],
+    ys: &[f64],
+    zs: &[f64],
+    used: usize,
+) -> bool
+    ensures { λ r. ⌜ r ≡ soundLayout (library (now (keys .entry)) (now (ids .entry)) (now (xs .entry)) (now (ys .entry)) (now (zs .entry)) used) ⌝ }
 {
-    (ids == keys) & ((xs == keys) & ((ys == keys) & (zs == keys)))
+    let n = keys.len();
+    ((ids.len() == n) & ((xs.len() == n) & ((ys.len() == n) & (zs.len() == n)))) & (used <= n)
 }
 
 // Whether each of the first n is +0. A flag, and no way out of the loop: two values are taken at a time.
@@ -59,8 +68,8 @@ fn are_plus_zeros(s: &[f64], n: usize) -> bool
 }
 
 // Whether each key is below the container count. They ascend, so the last one tells.
-fn are_keys_below(keys: &[u64], ids: &[u64], used: usize, count: u64) -> bool
-    requires { ⌜ Ordered (now keys) (now ids) used ⌝ }
+fn are_keys_below(keys: &[u64], used: usize, count: u64) -> bool
+    requires { ⌜ Rising (now keys) used ⌝ }
     ensures { λ r. ⌜ r ≡ all (λ (k : ℕ). ltb k count) (take used (now (keys .entry))) ⌝ }
 {
     if used == 0 {
@@ -69,26 +78,22 @@ fn are_keys_below(keys: &[u64], ids: &[u64], used: usize, count: u64) -> bool
     keys[used - 1] < count
 }
 
-// Whether the rows in use are good, each by itself, and in strict order. Each entry is read once, list by list.
-fn are_rows_good(
-    sheet: GridSearch,
-    keys: &[u64],
-    ids: &[u64],
-    xs: &[f64],
-    ys: &[f64],
-    zs: &[f64],
-    used: usize,
-) -> bool
-    requires { ⌜ Checked sheet (now keys) (now ids) (now xs) (now ys) (now zs) used ⌝ }
-    ensures { λ r. ⌜ r ≡ rowsOk sheet (rowsOf (now (keys .entry)) (now (ids .entry)) (now (xs .entry)) (now (ys .entry)) (now (zs .entry)) used) ⌝ }
+// Whether the first `used` of two lists are slots in strict order, their keys below a count.
+fn are_slots_good(keys: &[u64], ids: &[u64], used: usize, count: u64) -> bool
+    requires { ⌜ (used ≤ length (now keys)) × (used ≤ length (now ids)) ⌝ ∗ ⌜ count ≤ 2 ^ 32 ⌝ }
+    ensures { λ r. ⌜ r ≡ slotsOk count (now (keys .entry)) (now (ids .entry)) used ⌝ }
 {
-    let ndim = sheet.ndim;
     if !table::ascend(keys, ids, used) {
         return false;
     }
-    if !are_keys_below(keys, ids, used, grid::container_count(ndim, sheet.ndiv)) {
-        return false;
-    }
+    are_keys_below(keys, used, count)
+}
+
+// Whether the first `used` of three lists are coordinates, the third +0 in 2D. Each entry is read once, list by list.
+fn are_points_good(ndim: usize, xs: &[f64], ys: &[f64], zs: &[f64], used: usize) -> bool
+    requires { ⌜ dimension ndim ≡ true ⌝ ∗ ⌜ (used ≤ length (now xs)) × (used ≤ length (now ys)) × (used ≤ length (now zs)) ⌝ }
+    ensures { λ r. ⌜ r ≡ pointsOk ndim (now (xs .entry)) (now (ys .entry)) (now (zs .entry)) used ⌝ }
+{
     if !geometry::all_coordinates(&xs[..used]) {
         return false;
     }
@@ -100,6 +105,26 @@ fn are_rows_good(
     } else {
         geometry::all_coordinates(&zs[..used])
     }
+}
+
+// Whether the rows in use are good, each by itself, and in strict order.
+fn are_rows_good(
+    sheet: GridSearch,
+    keys: &[u64],
+    ids: &[u64],
+    xs: &[f64],
+    ys: &[f64],
+    zs: &[f64],
+    used: usize,
+) -> bool
+    requires { ⌜ Checked sheet (library (now keys) (now ids) (now xs) (now ys) (now zs) used) ⌝ }
+    ensures { λ r. ⌜ r ≡ soundRows sheet (table (library (now (keys .entry)) (now (ids .entry)) (now (xs .entry)) (now (ys .entry)) (now (zs .entry)) used)) ⌝ }
+{
+    let ndim = sheet.ndim;
+    if !are_slots_good(keys, ids, used, grid::container_count(ndim, sheet.ndiv)) {
+        return false;
+    }
+    are_points_good(ndim, xs, ys, zs, used)
 }
 
 // What turns a library away: 24, 13, or 0.
@@ -114,16 +139,13 @@ pub fn library_fault(
 ) -> u64
     ensures { λ r. ⌜ r ≡ code (fault (libraryTests sheet (library (now (keys .entry)) (now (ids .entry)) (now (xs .entry)) (now (ys .entry)) (now (zs .entry)) used))) ⌝ }
 {
-    if is_too_long(keys.len(), ids.len(), xs.len(), ys.len(), zs.len()) {
+    if is_too_long(keys, ids, xs, ys, zs) {
         return 24;
     }
     if !grid_search::is_sheet(sheet) {
         return 13;
     }
-    if !is_level(keys.len(), ids.len(), xs.len(), ys.len(), zs.len()) {
-        return 13;
-    }
-    if used > keys.len() {
+    if !is_layout_sound(keys, ids, xs, ys, zs, used) {
         return 13;
     }
     if are_rows_good(sheet, keys, ids, xs, ys, zs, used) {
@@ -134,7 +156,7 @@ pub fn library_fault(
 }
 
 // What turns a position away before its container is looked for: 2, 3, 11, or 0.
-pub fn position_fault(sheet: GridSearch, x: &[f64]) -> u64
+fn position_fault(sheet: GridSearch, x: &[f64]) -> u64
     requires { ⌜ dimension (sheet .ndim) ≡ true ⌝ }
     ensures { λ r. ⌜ r ≡ code (fault (positionTests sheet (now (x .entry)) [])) ⌝ }
 {
@@ -149,6 +171,26 @@ pub fn position_fault(sheet: GridSearch, x: &[f64]) -> u64
         return 11;
     }
     0
+}
+
+// What turns a call at a position away before its container is looked for: 24, 13, 2, 3, 11, or 0.
+pub fn call_fault(
+    sheet: GridSearch,
+    keys: &[u64],
+    ids: &[u64],
+    xs: &[f64],
+    ys: &[f64],
+    zs: &[f64],
+    used: usize,
+    x: &[f64],
+) -> u64
+    ensures { λ r. ⌜ r ≡ code (fault (libraryTests sheet (library (now (keys .entry)) (now (ids .entry)) (now (xs .entry)) (now (ys .entry)) (now (zs .entry)) used) ++ positionTests sheet (now (x .entry)) [])) ⌝ }
+{
+    let damage = library_fault(sheet, keys, ids, xs, ys, zs, used);
+    if damage != 0 {
+        return damage;
+    }
+    position_fault(sheet, x)
 }
 
 // A coordinate of a halo corner: below x where the last of the corner's digits is 0, and above where it is 1.
@@ -198,7 +240,7 @@ fn add_target(sheet: GridSearch, into: &mut [u64], n: usize, point: Position) ->
 // Returns how many there are, or 0 where a ratio of one of these points exceeds its divisions.
 fn find_targets(sheet: GridSearch, into: &mut [u64], x: Position) -> usize
     requires { ⌜ Divided sheet ⌝ ∗ ⌜ outsideSheet sheet (coords (sheet .ndim) x) ≡ false ⌝ ∗ ⌜ 9 ≤ length (now into) ⌝ }
-    ensures { λ r. ⌜ Found sheet (coords (sheet .ndim) x) r (now (into .exit)) ⌝ }
+    ensures { λ r. ⌜ FoundTargets sheet (coords (sheet .ndim) x) r (now (into .exit)) ⌝ }
 {
     let ndim = sheet.ndim;
     let place = grid::calc_container_key(ndim, sheet.side_length, sheet.ndiv, sheet.xmin, x);
@@ -221,6 +263,43 @@ fn find_targets(sheet: GridSearch, into: &mut [u64], x: Position) -> usize
     n
 }
 
+// What is to be done with a mark: it goes into the first so many of the containers found, or is refused.
+enum Judged {
+    Into(usize),
+    Refused(u64),
+}
+
+// Judges an insertion and finds the containers that the mark goes into. 12 is judged before anything is written.
+fn judge(
+    sheet: GridSearch,
+    keys: &[u64],
+    ids: &[u64],
+    xs: &[f64],
+    ys: &[f64],
+    zs: &[f64],
+    used: usize,
+    id: u64,
+    x: &[f64],
+    into: &mut [u64],
+) -> Judged
+    requires { ⌜ 9 ≤ length (now into) ⌝ }
+    ensures { λ r. ⌜ Judges sheet (library (now (keys .entry)) (now (ids .entry)) (now (xs .entry)) (now (ys .entry)) (now (zs .entry)) used)
+        id (now (x .entry)) r (now (into .exit)) ⌝ }
+{
+    let fault = call_fault(sheet, keys, ids, xs, ys, zs, used, x);
+    if fault != 0 {
+        return Judged::Refused(fault);
+    }
+    let n = find_targets(sheet, into, Position::new(x));
+    if n == 0 {
+        return Judged::Refused(17);
+    }
+    if table::rows_after(keys, ids, used, &into[..n], id) > keys.len() {
+        return Judged::Refused(12);
+    }
+    Judged::Into(n)
+}
+
 // Puts a mark into the library: into its container, and into those of its halo corners that fall within the sheet. A row
 // of the mark that is there takes the new coordinates. A refusal changes nothing.
 pub fn insert(
@@ -235,27 +314,16 @@ pub fn insert(
     x: &[f64],
 ) -> Inserted
     ensures { λ r. ⌜ Gives (insertion sheet (library (now (keys .entry)) (now (ids .entry)) (now (xs .entry)) (now (ys .entry)) (now (zs .entry)) used) (id .0) (now (x .entry)))
-        r (now (keys .exit)) (now (ids .exit)) (now (xs .exit)) (now (ys .exit)) (now (zs .exit)) ⌝ }
+        r (library (now (keys .exit)) (now (ids .exit)) (now (xs .exit)) (now (ys .exit)) (now (zs .exit)) (usedAfter r used)) ⌝ }
 {
-    let damage = library_fault(sheet, keys, ids, xs, ys, zs, used);
-    if damage != 0 {
-        return Inserted::Refused(damage);
-    }
-    let wrong = position_fault(sheet, x);
-    if wrong != 0 {
-        return Inserted::Refused(wrong);
-    }
-    let at = Position::new(x);
     let mut into: [u64; 9] = [0; 9];
-    let n = find_targets(sheet, &mut into, at);
-    if n == 0 {
-        return Inserted::Refused(17);
+    let judged = judge(sheet, keys, ids, xs, ys, zs, used, id.0, x, &mut into);
+    match judged {
+        Judged::Into(n) => {
+            let at = Position::new(x);
+            let count = table::put_all(keys, ids, xs, ys, zs, used, &into[..n], id, at);
+            Inserted::Stored(count)
+        }
+        Judged::Refused(n) => Inserted::Refused(n),
     }
-    // 12 is judged before anything is written
-    let after = table::rows_after(keys, ids, used, &into[..n], id.0);
-    if after > keys.len() {
-        return Inserted::Refused(12);
-    }
-    let count = table::put_all(keys, ids, xs, ys, zs, used, &into[..n], id, at);
-    Inserted::Stored(count)
 }

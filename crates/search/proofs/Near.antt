@@ -1,29 +1,33 @@
 -- Among rows in strict order, the first near one of a container has the lowest id; and the walk that finds it.
 -- Assumes nothing.
-use Prim.Native.Nat.{ℕ, zero, suc, _+_, min, _≤_, _<_, zero-le, suc-le-suc}
-use native.Mathlib.Nat.{le-of-suc-le-suc, not-suc-le-zero, eq-or-lt-of-le, min-eq-left, le-min, le-trans}
+use Prim.Native.Nat.{ℕ, zero, suc, _+_, _≤_, _<_, zero-le, suc-le-suc}
+use native.Mathlib.Nat.{le-of-suc-le-suc, min-eq-left, le-min}
 use native.Mathlib.Numerals.{add-one}
 use native.Mathlib.Omega.{arith}
-use mathlib.Core.Path.{_≡_, refl, sym, ap, _∙_, subst}
-use mathlib.Core.Logic.{_⊎_, inl, inr, ⊎-elim}
-use mathlib.Core.Bool.{Bool, true, false, cond, _&&_}
+use mathlib.Core.Path.{_≡_, refl, sym, ap, _∙_}
+use mathlib.Core.Logic.{⊎-elim}
+use mathlib.Core.Bool.{Bool, true, false, cond}
 use mathlib.Core.Option.{Option, none, some}
 use mathlib.Core.List.{List, [], _∷_, map}
 use lib.Dec.{eqb}
-use lib.ListN.{length, drop, getD}
-use lib.Ieee.{Float, nan, le}
+use lib.ListN.{take, drop, getD}
+use lib.Ieee.{Float, le}
 use borrow.Author.Tests.{eqb-true, eq-eqb, ne-eqb}
-use Rattle.basics.proofs.Bools.{by-test, clash, and-left, and-both}
+use Rattle.basics.proofs.Bools.{by-test, and-left, and-both}
 use Rattle.basics.specs.Lists.{keep, tab}
-use Rattle.basics.proofs.Lists.{length-tab, drop-tab}
+use Rattle.basics.proofs.Lists.{drop-tab}
 use Rattle.geometry.specs.Position.{coords}
 use Rattle.geometry.specs.Distances.{pointPoint}
 use Rattle.grid_search.specs.declared.GridSearch.{GridSearch}
 use Rattle.table.specs.declared.Row.{Row}
-use Rattle.table.specs.Rows.{Slot, slotted, slotOf, before, chain, sorted, lower, keyIn, idIn, slotAt, rowAt, slotsOf, rowsOf}
-use Rattle.table.proofs.Order.{Lex, before-lex, before-trans, chain-sorted, sorted-at, lower-le, lower-below, lower-above, below-key, past-key}
-use Rattle.table.proofs.Stores.{slots-rows}
-use Rattle.search.specs.Search.{isNearIn, lowerOf, lowest}
+use Rattle.table.specs.Rows.{Slot, slotOf, before, chain, sorted, lead, keyIn, idIn}
+use Rattle.table.specs.Library.{Library, rowAt, rowsOf, table}
+use Rattle.table.specs.Posts.{Rising, InOrder}
+use Rattle.table.proofs.Order.{Lex, before-lex, before-trans, chain-sorted}
+use Rattle.table.proofs.First.{rising, first-most, below-first, from-first}
+use Rattle.table.proofs.Libraries.{ordered}
+use Rattle.rows.specs.Insert.{containerOf}
+use Rattle.search.specs.Search.{isNear, nearRows, lowerOf, lowest, chosen}
 
 -- ---- the first row that passes a test
 
@@ -89,42 +93,58 @@ module _ (p : Row → Bool) where
   unfolding firstOf
   first-step n g i h = rw (add-one, drop-tab n g i h)
 
--- over the rows of a container, from its first slot to the first row of another
-module _ (s : GridSearch) (keys ids : List ℕ) (xs ys zs : List Float) (used : ℕ) (order : sorted (slotsOf keys ids used) ≡ true) (key : ℕ) (x : List Float) where
-  abbrev rows : List Row
-  rows = rowsOf keys ids xs ys zs used
+-- over the rows of a container, from its first row to the first of another
+module _ (s : GridSearch) (l : Library) (key : ℕ) (x : List Float) where
+  -- the walk has come to row i, which stands no earlier than the container's first, and no row before it is near
+  pub record Looking (i : ℕ) : Type 0 where
+    pub from : lead key (take (l .used) (l .keys)) ≤ i
+    pub upto : i ≤ l .used
+    pub rest : firstOf (isNear s x) (table l) ≡ firstOf (isNear s x) (drop i (table l))
 
-  abbrev near : Row → Bool
-  near = isNearIn s key x
+module _ (s : GridSearch) (l : Library) (o : InOrder l) (key : ℕ) (x : List Float) (c : containerOf s x ≡ key) where
+  up : Rising (l .keys) (l .used)
+  up = rising (ordered o)
 
-  other-key : (r : Row) → eqb (keyIn r) key ≡ false → near r ≡ false
-  unfolding isNearIn
-  other-key r e = rw e
+  other-key : (r : Row) → (keyIn r ≡ key → ⊥) → isNear s x r ≡ false
+  unfolding isNear
+  other-key r e = rw (c, ne-eqb (keyIn r) key e)
 
-  pub walk-lowest : lowest (keep near rows) ≡ firstOf near rows
-  unfolding isNearIn
-  walk-lowest = lowest-first near key (λ r h. eqb-true (keyIn r) key (and-left (eqb (keyIn r) key) _ h)) rows (rw slots-rows order)
+  of-key : (r : Row) → isNear s x r ≡ true → keyIn r ≡ key
+  unfolding isNear
+  of-key r h = eqb-true (keyIn r) key (rw c at (and-left (eqb (keyIn r) (containerOf s x)) _ h))
 
-  pub walk-start : (i : ℕ) → i ≡ lower (slotted key 0) (slotsOf keys ids used) → (i ≤ used) × (firstOf near rows ≡ firstOf near (drop i rows))
-  unfolding slotsOf rowsOf
-  walk-start i e =
-      let h : i ≤ used = omega (arith, lower-le (slotted key 0) (tab used (slotAt keys ids)), length-tab used (slotAt keys ids)) in
-      (h, first-skip near used (rowAt keys ids xs ys zs) i h (λ j l. other-key (rowAt keys ids xs ys zs j) (below-key (slotAt keys ids j) key (lower-below (slotted key 0) used (slotAt keys ids) j (rw e at l)))))
+  -- the choice is the first of the near rows
+  choice : {f : Option ℕ} → firstOf (isNear s x) (table l) ≡ f → chosen s x (nearRows s x (table l)) ≡ f
+  unfolding chosen nearRows
+  choice e = lowest-first (isNear s x) key of-key (table l) (o .order) ∙ e
 
-  pub walk-stop : (i : ℕ) → lower (slotted key 0) (slotsOf keys ids used) ≤ i → i < used → (getD keys i 0 ≡ key → ⊥) → firstOf near (drop i rows) ≡ none
-  unfolding slotsOf rowsOf
-  walk-stop i h k f =
-      first-none near used (rowAt keys ids xs ys zs) i
-      (λ j l m. other-key (rowAt keys ids xs ys zs j)
-      (⊎-elim (λ q. subst (λ (n : ℕ). eqb (getD keys n 0) key ≡ false) q (ne-eqb _ _ f))
-      (λ lt. past-key (slotAt keys ids i) (slotAt keys ids j) key (lower-above (slotted key 0) used (slotAt keys ids) order i h k) f (sorted-at used (slotAt keys ids) order i j lt m))
-      (eq-or-lt-of-le l)))
+  pub look-start : (i : ℕ) → i ≡ lead key (take (l .used) (l .keys)) → Looking s l key x i
+  unfolding table rowsOf
+  look-start i e =
+      let h : i ≤ l .used = omega (arith, first-most (l .keys) (l .used) up key) in
+      let low : (j : ℕ) → j < i → isNear s x (rowAt l j) ≡ false = λ j k. other-key (rowAt l j) (λ q. omega (arith, below-first (l .keys) (l .used) up key j (omega arith))) in
+      record { from = omega arith; upto = h; rest = first-skip (isNear s x) (l .used) (rowAt l) i h low }
 
-  pub walk-turn : (i : ℕ) → i < used → getD keys i 0 ≡ key → (r : Row) → r ≡ rowAt keys ids xs ys zs i → (b : Bool) → b ≡ le (pointPoint (coords (s .ndim) (r .at)) x) (s .«tol_dist»)
-      → firstOf near (drop i rows) ≡ cond b (some (idIn r)) (firstOf near (drop (i + 1) rows))
-  unfolding rowsOf isNearIn
-  walk-turn i h k r f b e = first-step near used (rowAt keys ids xs ys zs) i h ∙ rw (e, f, eq-eqb (getD keys i 0) key k)
+  module _ (i : ℕ) (w : Looking s l key x i) where
+    -- a row of another container: there is none of this one from it on
+    pub look-stop : i < l .used → (getD (l .keys) i 0 ≡ key → ⊥) → chosen s x (nearRows s x (table l)) ≡ none
+    unfolding table rowsOf
+    look-stop k f =
+        let above : key ≤ getD (l .keys) i 0 = from-first (l .keys) (l .used) up key i (w .from) k in
+        choice (w .rest ∙ first-none (isNear s x) (l .used) (rowAt l) i (λ j h m. other-key (rowAt l j) (λ q. f (omega (arith, up .rise i j h m)))))
 
-  pub walk-end : (i : ℕ) → used ≤ i → firstOf near (drop i rows) ≡ none
-  unfolding rowsOf
-  walk-end i h = first-none near used (rowAt keys ids xs ys zs) i (λ j l m. absurd (omega arith))
+    -- a row of this container
+    module _ (k : i < l .used) (f : getD (l .keys) i 0 ≡ key) {r : Row} (e : r ≡ rowAt l i) {b : Bool} (d : b ≡ le (pointPoint (coords (s .ndim) (r .at)) x) (s .«tol_dist»)) where
+      turn : firstOf (isNear s x) (table l) ≡ cond b (some (idIn r)) (firstOf (isNear s x) (drop (i + 1) (table l)))
+      unfolding table rowsOf isNear
+      turn = w .rest ∙ first-step (isNear s x) (l .used) (rowAt l) i k ∙ rw (c, d, e, eq-eqb (getD (l .keys) i 0) key f)
+
+      pub look-found : b ≡ true → chosen s x (nearRows s x (table l)) ≡ some (idIn r)
+      look-found y = choice (turn ∙ rw y)
+
+      pub look-again : b ≡ false → Looking s l key x (i + 1)
+      look-again y = record { from = omega (arith, w .from); upto = omega arith; rest = turn ∙ rw y }
+
+    pub look-end : l .used ≤ i → chosen s x (nearRows s x (table l)) ≡ none
+    unfolding table rowsOf
+    look-end h = choice (w .rest ∙ first-none (isNear s x) (l .used) (rowAt l) i (λ j k m. absurd (omega arith)))

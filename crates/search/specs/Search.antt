@@ -13,20 +13,16 @@ use Rattle.geometry.specs.Distances.{pointPoint}
 use Rattle.grid_search.specs.declared.GridSearch.{GridSearch}
 use Rattle.table.specs.declared.Row.{Row}
 use Rattle.table.specs.Rows.{keyIn, idIn}
-use Rattle.rows.specs.Library.{Library, table, libraryTests}
+use Rattle.table.specs.Library.{Library, table}
+use Rattle.rows.specs.Damage.{libraryTests}
 use Rattle.rows.specs.Insert.{containerOf, positionTests}
 use Rattle.search.specs.declared.Found.{Found}
 use Rattle.search.specs.declared.Found.the-variants.{Id, Nothing, Refused}
 
--- a row is in a container and its computed distance from a position is at most tol_dist
-unfoldable pub isNearIn : GridSearch → ℕ → List Float → Row → Bool
-unfolding pointPoint le
-isNearIn s key x r = eqb (keyIn r) key && le (pointPoint (coords (s .ndim) (r .at)) x) (s .«tol_dist»)
-
--- a row is near a position: so in the position's container
+-- a row is near a position: it is in the position's container, and its computed distance is at most tol_dist
 unfoldable pub isNear : GridSearch → List Float → Row → Bool
-unfolding containerOf isNearIn
-isNear s x r = isNearIn s (containerOf s x) x r
+unfolding containerOf pointPoint le
+isNear s x r = eqb (keyIn r) (containerOf s x) && le (pointPoint (coords (s .ndim) (r .at)) x) (s .«tol_dist»)
 
 unfoldable pub nearRows : GridSearch → List Float → List Row → List Row
 unfolding keep isNear
@@ -37,11 +33,16 @@ unfoldable pub lowerOf : ℕ → Option ℕ → Option ℕ
 lowerOf i none = some i
 lowerOf i (some j) = some (min i j)
 
--- the choice: the lowest id
+-- the lowest id
 unfoldable pub lowest : List Row → Option ℕ
 unfolding lowerOf
 lowest [] = none
 lowest (r ∷ rows) = lowerOf (idIn r) (lowest rows)
+
+-- the choice among the rows near a position: the lowest id
+unfoldable pub chosen : GridSearch → List Float → List Row → Option ℕ
+unfolding lowest
+chosen s x rows = lowest rows
 
 -- 24, 13, 2, 3, 11, 17
 unfoldable pub searchTests : GridSearch → Library → List Float → List Test
@@ -50,8 +51,8 @@ searchTests s l x = libraryTests s l ++ positionTests s x (x ∷ [])
 
 -- the id found, or none, or the refusal
 unfoldable pub searchAnswer : GridSearch → Library → List Float → Answer (Option ℕ)
-unfolding fault searchTests lowest nearRows table answer
-searchAnswer s l x = answer (fault (searchTests s l x)) (lowest (nearRows s x (table l)))
+unfolding fault searchTests chosen nearRows table answer
+searchAnswer s l x = answer (fault (searchTests s l x)) (chosen s x (nearRows s x (table l)))
 
 abbrev pub found : Found → Answer (Option ℕ)
 found (Id i) = success (some (i .0))

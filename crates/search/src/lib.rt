@@ -2,13 +2,13 @@
 ghost use mathlib.Core.Path.{_≡_};
 ghost use mathlib.Core.Bool.{true};
 ghost use lib.Ieee.{le};
-ghost use Rattle.basics.specs.Lists.{keep};
 ghost use Rattle.basics.specs.Refusals.{success};
 ghost use Rattle.geometry.specs.Position.{coords, dimension};
 ghost use Rattle.geometry.specs.Distances.{pointPoint};
-ghost use Rattle.table.specs.Rows.{rowsOf, Sound};
-ghost use Rattle.rows.specs.Library.{library};
-ghost use Rattle.search.specs.Search.{isNearIn, lowest, searchAnswer, found};
+ghost use Rattle.table.specs.Library.{library, table};
+ghost use Rattle.table.specs.Posts.{InOrder};
+ghost use Rattle.rows.specs.Insert.{containerOf};
+ghost use Rattle.search.specs.Search.{nearRows, chosen, searchAnswer, found};
 use geometry::Position;
 use grid::Located;
 use grid_search::GridSearch;
@@ -29,7 +29,7 @@ fn is_near(sheet: GridSearch, point: Position, x: Position) -> bool
     geometry::point_point(sheet.ndim, point, x) <= sheet.tol_dist
 }
 
-// The lowest id of the rows of a container that are near x. They stand together, and their ids ascend.
+// The choice among the rows near x, which is in the container of a key: the lowest id. They stand together, and their ids ascend.
 fn find_near(
     sheet: GridSearch,
     keys: &[u64],
@@ -41,10 +41,10 @@ fn find_near(
     key: u64,
     x: Position,
 ) -> Found
-    requires { ⌜ dimension (sheet .ndim) ≡ true ⌝ ∗ ⌜ Sound (now keys) (now ids) (now xs) (now ys) (now zs) used ⌝ }
-    ensures { λ r. ⌜ found r ≡ success (lowest (keep (isNearIn sheet key (coords (sheet .ndim) x)) (rowsOf (now (keys .entry)) (now (ids .entry)) (now (xs .entry)) (now (ys .entry)) (now (zs .entry)) used))) ⌝ }
+    requires { ⌜ dimension (sheet .ndim) ≡ true ⌝ ∗ ⌜ containerOf sheet (coords (sheet .ndim) x) ≡ key ⌝ ∗ ⌜ InOrder (library (now keys) (now ids) (now xs) (now ys) (now zs) used) ⌝ }
+    ensures { λ r. ⌜ found r ≡ success (chosen sheet (coords (sheet .ndim) x) (nearRows sheet (coords (sheet .ndim) x) (table (library (now (keys .entry)) (now (ids .entry)) (now (xs .entry)) (now (ys .entry)) (now (zs .entry)) used)))) ⌝ }
 {
-    let mut i = table::first_of(keys, ids, used, key);
+    let mut i = table::first_of(keys, used, key);
     while i < used {
         if keys[i] != key {
             return Found::Nothing;
@@ -72,13 +72,9 @@ pub fn search(
 ) -> Found
     ensures { λ r. ⌜ found r ≡ searchAnswer sheet (library (now (keys .entry)) (now (ids .entry)) (now (xs .entry)) (now (ys .entry)) (now (zs .entry)) used) (now (x .entry)) ⌝ }
 {
-    let damage = rows::library_fault(sheet, keys, ids, xs, ys, zs, used);
-    if damage != 0 {
-        return Found::Refused(damage);
-    }
-    let wrong = rows::position_fault(sheet, x);
-    if wrong != 0 {
-        return Found::Refused(wrong);
+    let fault = rows::call_fault(sheet, keys, ids, xs, ys, zs, used, x);
+    if fault != 0 {
+        return Found::Refused(fault);
     }
     let at = Position::new(x);
     let place = grid::calc_container_key(sheet.ndim, sheet.side_length, sheet.ndiv, sheet.xmin, at);

@@ -1,23 +1,23 @@
 -- How many rows a mark's stores will make, found before anything is written.
 -- Assumes nothing.
-use Prim.Native.Nat.{ℕ, zero, suc, _+_, _≤_, _<_}
+use Prim.Native.Nat.{ℕ, _+_, _≤_, _<_}
 use native.Mathlib.Numerals.{add-one}
 use native.Mathlib.Omega.{arith}
 use mathlib.Core.Path.{_≡_, refl, sym, ap, _∙_, subst}
-use mathlib.Core.Bool.{Bool, true, false, _&&_, _||_, cond, or-true, or-false, and-true}
+use mathlib.Core.Bool.{Bool, true, false, _||_, cond, or-true, or-false, and-true}
 use mathlib.Core.List.{List, [], _∷_, map}
-use lib.ListN.{length, getD, take, drop}
+use lib.ListN.{length, getD, take, drop, length-map}
 use lib.Seq.{slice-cons, slice-empty, take-all}
 use lib.Dec.{eqb}
-use lib.Ieee.{Float}
 use borrow.Author.Tests.{eq-eqb}
 use Rattle.basics.proofs.Bools.{by-test, clash, and-both}
 use Rattle.basics.specs.Lists.{has}
 use Rattle.geometry.specs.declared.Position.{Position}
 use Rattle.table.specs.declared.Row.{Row}
-use Rattle.table.specs.Rows.{Slot, slotted, slotOf, before, same, chain, sorted, held, slotsOf, rowsOf, rowIn, putRow, putIn, CountAfter}
+use Rattle.table.specs.Rows.{Slot, slotted, slotOf, before, same, chain, sorted, held, rowIn, putRow, putIn}
+use Rattle.table.specs.Posts.{CountAfter}
 use Rattle.table.proofs.Order.{before-trans, before-irrefl, before-total, same-eq, chain-sorted}
-use Rattle.table.proofs.Stores.{length-put, length-rows, slots-rows}
+use Rattle.table.proofs.Stores.{length-put}
 use Rattle.table.proofs.All.{all-next, sorted-all}
 
 -- the walk of `among`
@@ -80,20 +80,20 @@ count-next id at ks i rows e h =
     ∙ length-put (rowIn id at (getD ks i 0)) (putIn id at (take i ks) rows)
     ∙ rw (held-there _ _ (sorted-all id at (take i ks) rows e), there-all, held-there _ _ e, add-one) refl
 
-pub count-start : (keys ids : List ℕ) (used id : ℕ) (into : List ℕ) → CountAfter keys ids used id (take 0 into) used
-unfolding putIn
-count-start keys ids used id into at xs ys zs = sym (length-rows keys ids xs ys zs used)
+module _ (slots : List Slot) (id : ℕ) (into : List ℕ) where
+  pub count-start : (n : ℕ) → length slots ≡ n → CountAfter slots id (take 0 into) n
+  unfolding putIn
+  count-start n m at rows q = sym m ∙ ap length (sym q) ∙ length-map rows slotOf
 
-pub count-more : (keys ids : List ℕ) (used id : ℕ) (into : List ℕ) (i n : ℕ) (m : ℕ) → sorted (slotsOf keys ids used) ≡ true → i < length into
-    → CountAfter keys ids used id (take i into) n
-    → m ≡ cond (has (getD into i 0) (take i into) || held (slotted (getD into i 0) id) (slotsOf keys ids used)) n (n + 1)
-    → CountAfter keys ids used id (take (i + 1) into) m
-count-more keys ids used id into i n m o h c e at xs ys zs =
-    e ∙ sym (count-next id at into i (rowsOf keys ids xs ys zs used) (rw slots-rows o) h ∙ rw (c at xs ys zs, slots-rows))
+  module _ (i n : ℕ) (c : CountAfter slots id (take i into) n) where
+    pub count-more : (m : ℕ) → sorted slots ≡ true → i < length into
+        → m ≡ cond (has (getD into i 0) (take i into) || held (slotted (getD into i 0) id) slots) n (n + 1)
+        → CountAfter slots id (take (i + 1) into) m
+    count-more m o h e at rows q = e ∙ sym (count-next id at into i rows (ap sorted q ∙ o) h ∙ rw (← c at rows q, q))
+
+    pub count-end : length into ≤ i → CountAfter slots id into n
+    count-end h = rw (take-all i into h) at c
 
 pub one-at-most : (b : Bool) (n : ℕ) → cond b n (n + 1) ≤ n + 1
 one-at-most true n = omega arith
 one-at-most false n = omega arith
-
-pub count-end : (keys ids : List ℕ) (used id : ℕ) (into : List ℕ) (i n : ℕ) → length into ≤ i → CountAfter keys ids used id (take i into) n → CountAfter keys ids used id into n
-count-end keys ids used id into i n h c = rw (take-all i into h) at c

@@ -1,11 +1,10 @@
 -- Rows in strict order are known by the row of each slot. What is in the table after a mark's stores, and what they do to the rows of one id.
 -- Assumes nothing.
-use Prim.Native.Nat.{ℕ, _≤_, _<_}
+use Prim.Native.Nat.{ℕ, _≤_}
 use native.Mathlib.Omega.{arith}
 use mathlib.Core.Path.{_≡_, refl, sym, ap, ap₂, _∙_, subst}
 use mathlib.Core.Bool.{Bool, true, false, _&&_, _||_, cond, and-false}
-use mathlib.Core.Logic.{_⊎_, inl, inr, ⊎-elim}
-use mathlib.Core.List.{List, [], _∷_, map, List·Memᴰ, List·Memᴰ·head, List·Memᴰ·tail, List·Memᴰ·cases-cons, List·Memᴰ·not-nil}
+use mathlib.Core.List.{List, [], _∷_, map}
 use mathlib.Core.Option.{Option, none, some}
 use lib.Dec.{eqb}
 use lib.ListN.{length}
@@ -15,10 +14,9 @@ use Rattle.basics.specs.Lists.{all, keep, has}
 use Rattle.basics.proofs.Lists.{length-keep}
 use Rattle.geometry.specs.declared.Position.{Position}
 use Rattle.table.specs.declared.Row.{Row}
-use Rattle.table.specs.Rows.{Slot, slotted, slotOf, before, same, chain, sorted, keyIn, idIn, rowIn, putRow, putIn, own, rowFor}
+use Rattle.table.specs.Rows.{Slot, slotOf, before, same, chain, sorted, keyIn, idIn, rowIn, putRow, putIn, own, rowFor}
 use Rattle.table.proofs.Order.{before-trans, before-irrefl, before-total, same-eq, chain-sorted}
 use Rattle.table.proofs.Meaning.{sorted-put, rowFor-put}
-use Rattle.table.proofs.All.{sorted-all}
 
 pub same-self : (p : Slot) → same p p ≡ true
 unfolding same
@@ -26,9 +24,6 @@ same-self p = rw (eq-eqb (p .key) (p .key) refl, eq-eqb (p .id) (p .id) refl)
 
 after-not-same : (p q : Slot) → before p q ≡ true → same q p ≡ false
 after-not-same p q b = by-test (same q p) (λ g. clash (subst (λ (r : Slot). before p r ≡ true) (same-eq q p g) b) (before-irrefl p)) (λ g. g)
-
-not-same : (p q : Slot) → before p q ≡ true → same p q ≡ false
-not-same p q b = by-test (same p q) (λ g. clash (subst (λ (r : Slot). before r q ≡ true) (same-eq p q g) b) (before-irrefl q)) (λ g. g)
 
 chain-down : (p q : Slot) (qs : List Slot) → before p q ≡ true → chain q qs ≡ true → chain p qs ≡ true
 unfolding chain
@@ -79,13 +74,6 @@ rows-ext (r ∷ rs) (s ∷ ss) d e h =
     ap₂ (λ (t : Row) (l : List Row). t ∷ l) q (rows-ext rs ss (chain-sorted (slotOf r) (map slotOf rs) d) (chain-sorted (slotOf s) (map slotOf ss) e) (rest-same r rs ss d e′ h′)))
     (λ g. absurd (none-some (chain-none (slotOf s) (r ∷ rs) (both (before-total (slotOf r) (slotOf s) b g) d)) (h (slotOf s) ∙ here s ss))))
 
-chain-mem : (p : Slot) (rows : List Row) {s : Row} → chain p (map slotOf rows) ≡ true → List·Memᴰ s rows → before p (slotOf s) ≡ true
-unfolding chain
-chain-mem p [] e m = absurd (List·Memᴰ·not-nil m)
-chain-mem p (r ∷ rows) {s} e m =
-    let d = and-both (before p (slotOf r)) (chain (slotOf r) (map slotOf rows)) e in
-    ⊎-elim (λ q. rw q (d .0)) (λ h. before-trans p (slotOf r) (slotOf s) (d .0) (chain-mem (slotOf r) rows (d .1) h)) (List·Memᴰ·cases-cons m)
-
 -- ---- what is in the table after a mark's stores
 
 -- the slot is one of the mark's
@@ -107,38 +95,6 @@ rowFor-putIn id at (k ∷ ks) rows p =
     rowFor-putIn id at ks (putRow (rowIn id at k) rows) p
     ∙ ap (cond (marks id ks p) (some (rowIn id at (p .key)))) (rowFor-put p (rowIn id at k) rows)
     ∙ choose (eqb id (p .id)) (eqb k (p .key)) (has (p .key) ks) (some (rowIn id at (p .key))) (some (rowIn id at k)) (rowFor p rows) (λ f. ap (λ (j : ℕ). some (rowIn id at j)) (eqb-true k (p .key) f))
-
--- in rows in strict order, a row is there exactly if it is its slot's
-pub mem-rowFor : (rows : List Row) {s : Row} → sorted (map slotOf rows) ≡ true → List·Memᴰ s rows → rowFor (slotOf s) rows ≡ some s
-unfolding sorted rowFor
-mem-rowFor [] o m = absurd (List·Memᴰ·not-nil m)
-mem-rowFor (r ∷ rows) {s} o m =
-    ⊎-elim (λ e. ap (λ (t : Row). rowFor (slotOf t) (r ∷ rows)) e ∙ here r rows ∙ ap some (sym e))
-    (λ h. let b : before (slotOf r) (slotOf s) ≡ true = chain-mem (slotOf r) rows {s = s} o h in rw (not-same (slotOf r) (slotOf s) b) (mem-rowFor rows (chain-sorted (slotOf r) (map slotOf rows) o) h))
-    (List·Memᴰ·cases-cons m)
-
-pub rowFor-mem : (rows : List Row) (p : Slot) {s : Row} → rowFor p rows ≡ some s → List·Memᴰ s rows
-unfolding rowFor
-rowFor-mem [] p {s} e = absurd (none-some {r = s} refl e)
-rowFor-mem (r ∷ rows) p {s} e =
-    by-test (same (slotOf r) p)
-    (λ g. let h : some r ≡ some s = rw g at e in let q : s ≡ r = cc in List·Memᴰ·head q)
-    (λ g. List·Memᴰ·tail (rowFor-mem rows p (rw g at e)))
-
--- a row is there exactly if it is one of the mark's, or was there and was not replaced
-module _ (id : ℕ) (at : Position) (ks : List ℕ) (rows : List Row) (o : sorted (map slotOf rows) ≡ true) where
-  pub mem-putIn : (s : Row) → List·Memᴰ s (putIn id at ks rows) → ((marks id ks (slotOf s) ≡ true) × (s ≡ rowIn id at (keyIn s))) ⊎ ((marks id ks (slotOf s) ≡ false) × List·Memᴰ s rows)
-  mem-putIn s m =
-      let e : some s ≡ cond (marks id ks (slotOf s)) (some (rowIn id at (keyIn s))) (rowFor (slotOf s) rows) = sym (mem-rowFor (putIn id at ks rows) (sorted-all id at ks rows o) m) ∙ rowFor-putIn id at ks rows (slotOf s) in
-      by-test (marks id ks (slotOf s))
-      (λ g. let f : some s ≡ some (rowIn id at (keyIn s)) = rw g at e in let q : s ≡ rowIn id at (keyIn s) = cc in inl (g, q))
-      (λ g. inr (g, rowFor-mem rows (slotOf s) (sym (rw g at e))))
-
-  pub putIn-mark : (k : ℕ) → has k ks ≡ true → List·Memᴰ (rowIn id at k) (putIn id at ks rows)
-  putIn-mark k h = rowFor-mem (putIn id at ks rows) (slotted k id) (rowFor-putIn id at ks rows (slotted k id) ∙ rw (eq-eqb id id refl, h))
-
-  pub putIn-rest : (s : Row) → marks id ks (slotOf s) ≡ false → List·Memᴰ s rows → List·Memᴰ s (putIn id at ks rows)
-  putIn-rest s g m = rowFor-mem (putIn id at ks rows) (slotOf s) (rowFor-putIn id at ks rows (slotOf s) ∙ rw g (mem-rowFor rows o m))
 
 -- ---- a test that holds of each row
 
@@ -172,12 +128,6 @@ module _ (i : ℕ) where
       let d = and-both (before p (slotOf s)) (chain (slotOf s) (map slotOf rows)) e in
       by-test (eqb (idIn s) i) (λ f. rw f (both (d .0) (chain-own (slotOf s) rows (d .1))))
       (λ f. rw f (chain-own p rows (chain-down p (slotOf s) (map slotOf rows) (d .0) (d .1))))
-
-  pub sorted-own : (rows : List Row) → sorted (map slotOf rows) ≡ true → sorted (map slotOf (own i rows)) ≡ true
-  unfolding own keep sorted
-  sorted-own [] e = refl
-  sorted-own (s ∷ rows) e =
-      by-test (eqb (idIn s) i) (λ f. rw f (chain-own (slotOf s) rows e)) (λ f. rw f (sorted-own rows (chain-sorted (slotOf s) (map slotOf rows) e)))
 
   -- another id's row changes nothing
   other-put : (r : Row) (rows : List Row) → eqb (idIn r) i ≡ false → own i (putRow r rows) ≡ own i rows

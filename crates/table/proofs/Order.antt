@@ -4,18 +4,18 @@ use Prim.Native.Nat.{ℕ, zero, suc, _+_, _-_, _≤_, _<_, zero-le, suc-le-suc}
 use native.Mathlib.Nat.{le-of-suc-le-suc, not-suc-le-zero, eq-or-lt-of-le}
 use native.Mathlib.Numerals.{add-one}
 use native.Mathlib.Omega.{arith}
-use mathlib.Core.Path.{_≡_, refl, sym, ap, _∙_, subst}
+use mathlib.Core.Path.{_≡_, refl, sym, ap, subst}
 use mathlib.Core.Logic.{_⊎_, inl, inr, ⊎-elim}
-use mathlib.Core.Bool.{Bool, true, false, _&&_, _||_, cond, false≢true, or-true, and-assoc}
-use mathlib.Core.List.{List, [], _∷_, map}
+use mathlib.Core.Bool.{true, false, _&&_, false≢true, or-true}
+use mathlib.Core.List.{List, [], _∷_}
 use lib.ListN.{length, drop}
 use lib.Dec.{ltb, eqb}
-use borrow.Author.Tests.{ltb-true, eqb-true, lt-ltb, eq-eqb, ne-eqb}
+use borrow.Author.Tests.{ltb-true, eqb-true, lt-ltb, eq-eqb}
 use Rattle.basics.proofs.Bools.{by-test, clash, and-both, or-either}
 use Rattle.basics.specs.Lists.{tab}
 use Rattle.basics.proofs.Numbers.{trichotomy}
-use Rattle.basics.proofs.Lists.{length-tab, drop-tab}
-use Rattle.table.specs.Rows.{Slot, slotted, before, same, chain, sorted, lower, held}
+use Rattle.basics.proofs.Lists.{drop-tab}
+use Rattle.table.specs.Rows.{Slot, before, same, chain, sorted, lower, held}
 
 -- ---- the order
 
@@ -106,10 +106,6 @@ sorted-step n f i h =
     let g : i < n = omega arith in
     rw (add-one, drop-tab n f i g, drop-tab n f (suc i) k)
 
--- the same with a flag that holds what was passed
-pub sorted-turn : (n : ℕ) (f : ℕ → Slot) (i : ℕ) (ok : Bool) → i + 1 < n → (ok && sorted (drop i (tab n f))) ≡ ((ok && before (f i) (f (i + 1))) && sorted (drop (i + 1) (tab n f)))
-sorted-turn n f i ok h = ap (λ (t : Bool). ok && t) (sorted-step n f i h) ∙ sym (and-assoc ok (before (f i) (f (i + 1))) (sorted (drop (i + 1) (tab n f))))
-
 pub sorted-end : (n : ℕ) (f : ℕ → Slot) (i : ℕ) → n ≤ i + 1 → sorted (drop i (tab n f)) ≡ true
 unfolding sorted chain
 sorted-end zero f zero h = refl
@@ -170,30 +166,3 @@ pub held-lt : (p : Slot) (ps : List Slot) → held p ps ≡ true → lower p ps 
 unfolding lower held
 held-lt p [] h = absurd (false≢true h)
 held-lt p (q ∷ qs) h = by-test (before q p) (λ e. rw e (suc-le-suc (held-lt p qs (rw e at h)))) (λ e. rw e (suc-le-suc zero-le))
-
--- ---- what stands before a slot, and from it on
-
-pub lower-below : (p : Slot) (n : ℕ) (f : ℕ → Slot) (j : ℕ) → j < lower p (tab n f) → before (f j) p ≡ true
-unfolding lower
-lower-below p zero f j h = absurd (not-suc-le-zero h)
-lower-below p (suc n) f zero h = by-test (before (f 0) p) (λ e. e) (λ e. absurd (not-suc-le-zero (rw e at h)))
-lower-below p (suc n) f (suc j) h =
-    by-test (before (f 0) p) (λ e. lower-below p n (λ i. f (suc i)) j (le-of-suc-le-suc (rw e at h))) (λ e. absurd (not-suc-le-zero (rw e at h)))
-
-lower-here : (p : Slot) (n : ℕ) (f : ℕ → Slot) → lower p (tab n f) < n → before (f (lower p (tab n f))) p ≡ false
-unfolding lower
-lower-here p zero f h = absurd (not-suc-le-zero h)
-lower-here p (suc n) f h = by-test (before (f 0) p) (λ e. rw e (lower-here p n (λ i. f (suc i)) (le-of-suc-le-suc (rw e at h)))) (λ e. rw e e)
-
-pub lower-above : (p : Slot) (n : ℕ) (f : ℕ → Slot) → sorted (tab n f) ≡ true → (j : ℕ) → lower p (tab n f) ≤ j → j < n → before (f j) p ≡ false
-lower-above p n f e j h k = let g : lower p (tab n f) < n = omega arith in none-before p n f e (lower p (tab n f)) g (lower-here p n f g) j h k
-
--- a slot before (key, 0) has a lower key; one that is not, and has another key, has a higher key, and so has each after it
-pub below-key : (p : Slot) (key : ℕ) → before p (slotted key 0) ≡ true → eqb (p .key) key ≡ false
-unfolding Lex
-below-key p key e = ne-eqb (p .key) key (λ q. ⊎-elim (λ h. let l : p .key < key = h in omega arith) (λ h. let l : p .id < 0 = h .1 in omega arith) (before-lex p (slotted key 0) e))
-
-pub past-key : (p q : Slot) (key : ℕ) → before p (slotted key 0) ≡ false → (p .key ≡ key → ⊥) → before p q ≡ true → eqb (q .key) key ≡ false
-unfolding Lex
-past-key p q key e f b =
-    ne-eqb (q .key) key (λ h. ⊎-elim (λ l. let k : p .key < key = omega arith in clash (lex-before p (slotted key 0) (inl k)) e) (λ l. f (omega arith)) (before-lex p q b))

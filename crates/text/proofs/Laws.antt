@@ -15,7 +15,7 @@ use mathlib.Core.Logic.{_⊎_, inl, inr}
 use Rattle.basics.proofs.Bools.{which, by-test}
 use Rattle.basics.specs.Lists.{over}
 use Rattle.basics.proofs.Stores.{sets-append, sets-front}
-use Rattle.text.specs.Text.{ascii, digit, digits, decimal, valueFrom, value, entryText, entries, listText, Put}
+use Rattle.text.specs.Text.{ascii, digit, decimalDigits, decimal, entryText, entries, listText, refusal, Put, Front}
 
 -- ---- texts in a buffer
 
@@ -37,9 +37,15 @@ pub put-over : {a l l′ : List ℕ} {next : ℕ} → Put a l 0 l′ next → le
 unfolding over
 put-over {a} {l} p h = p .stands ∙ sets-front a l h
 
-pub put-take : {a l l′ : List ℕ} {next : ℕ} → Put a l 0 l′ next → length a ≤ length l → take next l′ ≡ a
+pub over-front : (text entry exit : List ℕ) (r : ℕ) → exit ≡ over text entry → r ≡ length text → Front text exit r
 unfolding over
-put-take {a} {l} p h = rw (p .past, zero-add, put-over p h) (take-append-seam a (drop (length a) l))
+over-front text entry exit r e n =
+    let front : take r exit ≡ text = rw (e, n) (take-append-seam text (drop (length text) entry)) in
+    let long : length exit ≡ length text + length (drop (length text) entry) = rw e (length-append text (drop (length text) entry)) in
+    ((omega (arith, n, long), n ∙ sym (ap length front)), front)
+
+pub put-front : {text entry exit : List ℕ} {r : ℕ} → Put text entry 0 exit r → length text ≤ length entry → Front text exit r
+put-front {text} {entry} {exit} {r} p h = over-front text entry exit r (put-over p h) (omega (arith, p .past))
 
 -- A text that is being put: what is left of it makes of the buffer as it is now what the whole makes of the buffer at the start.
 pub record Left (text l : List ℕ) (at : ℕ) (l′ : List ℕ) (next : ℕ) (left : List ℕ) : Type 0 where
@@ -63,49 +69,57 @@ left-none {next = next} w = record { stands = w .to-stand; past = sym (add-zero 
 -- ---- decimal numbers
 
 -- any depth above n serves
-enough : (k j n : ℕ) → n < k → n < j → digits k (ltb n 10) n ≡ digits j (ltb n 10) n
-unfolding digits
+enough : (k j n : ℕ) → n < k → n < j → decimalDigits k (ltb n 10) n ≡ decimalDigits j (ltb n 10) n
+unfolding decimalDigits
 enough zero j n h g = absurd (omega arith)
 enough (suc k) zero n h g = absurd (omega arith)
 enough (suc k) (suc j) n h g = go (enough k j (n / 10)) (which (ltb n 10))
   where
-    go : (n / 10 < k → n / 10 < j → digits k (ltb (n / 10) 10) (n / 10) ≡ digits j (ltb (n / 10) 10) (n / 10))
-        → (ltb n 10 ≡ true) ⊎ (ltb n 10 ≡ false) → digits (suc k) (ltb n 10) n ≡ digits (suc j) (ltb n 10) n
+    go : (n / 10 < k → n / 10 < j → decimalDigits k (ltb (n / 10) 10) (n / 10) ≡ decimalDigits j (ltb (n / 10) 10) (n / 10))
+        → (ltb n 10 ≡ true) ⊎ (ltb n 10 ≡ false) → decimalDigits (suc k) (ltb n 10) n ≡ decimalDigits (suc j) (ltb n 10) n
     go ih (inl e) = rw e
     go ih (inr e) =
         let ten : 10 ≤ n = ltb-false n 10 e in
         rw e (ap (λ (l : List ℕ). l ++ (digit (n % 10) ∷ [])) (ih (omega arith) (omega arith)))
 
 pub decimal-small : (n : ℕ) → n < 10 → decimal n ≡ digit n ∷ []
-unfolding decimal digits
+unfolding decimal decimalDigits
 decimal-small n h = rw (lt-ltb n 10 h)
 
 pub decimal-step : (n : ℕ) → 10 ≤ n → decimal n ≡ decimal (n / 10) ++ (digit (n % 10) ∷ [])
-unfolding decimal digits
+unfolding decimal decimalDigits
 decimal-step n h =
     rw (le-ltb n 10 h)
     (ap (λ (l : List ℕ). l ++ (digit (n % 10) ∷ [])) (enough n (suc (n / 10)) (n / 10) (omega arith) (omega arith)))
 
--- Decimal says its number: the digits' value is n, and the first is no 0 but where n is 0.
+-- Decimal says its number: the digits stand for n, and the first is no 0 but where n is 0.
 
-value-more : (n : ℕ) (ds : List ℕ) (d : ℕ) → valueFrom n (ds ++ (d ∷ [])) ≡ valueFrom n ds * 10 + (d - 48)
-unfolding valueFrom
-value-more n [] d = refl
-value-more n (e ∷ ds) d = value-more (n * 10 + (e - 48)) ds d
+numberFrom : ℕ → List ℕ → ℕ
+numberFrom n [] = n
+numberFrom n (d ∷ ds) = numberFrom (n * 10 + (d - 48)) ds
 
-says : (k n : ℕ) → n < k → value (decimal n) ≡ n
-unfolding value valueFrom
+-- the number that digits stand for
+pub numberOf : List ℕ → ℕ
+numberOf ds = numberFrom 0 ds
+
+number-more : (n : ℕ) (ds : List ℕ) (d : ℕ) → numberFrom n (ds ++ (d ∷ [])) ≡ numberFrom n ds * 10 + (d - 48)
+unfolding numberFrom
+number-more n [] d = refl
+number-more n (e ∷ ds) d = number-more (n * 10 + (e - 48)) ds d
+
+says : (k n : ℕ) → n < k → numberOf (decimal n) ≡ n
+unfolding numberOf numberFrom
 says zero n h = absurd (omega arith)
 says (suc k) n h = go (says k (n / 10)) (which (ltb n 10))
   where
-    go : (n / 10 < k → value (decimal (n / 10)) ≡ n / 10) → (ltb n 10 ≡ true) ⊎ (ltb n 10 ≡ false) → value (decimal n) ≡ n
+    go : (n / 10 < k → numberOf (decimal (n / 10)) ≡ n / 10) → (ltb n 10 ≡ true) ⊎ (ltb n 10 ≡ false) → numberOf (decimal n) ≡ n
     go ih (inl e) = rw (decimal-small n (ltb-true n 10 e)) (omega arith)
     go ih (inr e) =
         let ten : 10 ≤ n = ltb-false n 10 e in
-        rw (decimal-step n ten, value-more 0 (decimal (n / 10)) (digit (n % 10))) (let front = ih (omega arith) in omega arith)
+        rw (decimal-step n ten, number-more 0 (decimal (n / 10)) (digit (n % 10))) (let front = ih (omega arith) in omega arith)
 
-pub decimal-value : (n : ℕ) → value (decimal n) ≡ n
-decimal-value n = says (suc n) n (omega arith)
+pub decimal-number : (n : ℕ) → numberOf (decimal n) ≡ n
+decimal-number n = says (suc n) n (omega arith)
 
 pub decimal-some : (n : ℕ) → 0 < length (decimal n)
 decimal-some n = by-test (ltb n 10) (λ e. rw (decimal-small n (ltb-true n 10 e)) (omega arith)) λ e. rw (decimal-step n (ltb-false n 10 e), length-append) (omega arith)
@@ -138,38 +152,48 @@ decimal-length (suc k) n h = go (decimal-length k (n / 10)) (which (ltb n 10))
 pub decimal-20 : (n : ℕ) → n < 2 ^ 64 → length (decimal n) ≤ 20
 decimal-20 n h = decimal-length 19 n (omega arith)
 
--- ---- lists of numbers
+-- ---- numbers in a row
 
-pub entry-first : (i n : ℕ) → i ≡ 0 → entryText i n ≡ decimal n
-unfolding entryText
-entry-first i n e = rw e
+module _ (between : List ℕ) where
+  pub entry-first : (i n : ℕ) → i ≡ 0 → entryText between i n ≡ decimal n
+  unfolding entryText
+  entry-first i n e = rw e
 
-pub entry-next : (i n : ℕ) → (i ≡ 0 → ⊥) → entryText i n ≡ ascii ", " ++ decimal n
-unfolding entryText
-entry-next zero n e = absurd (e refl)
-entry-next (suc i) n e = refl
+  pub entry-next : (i n : ℕ) → (i ≡ 0 → ⊥) → entryText between i n ≡ between ++ decimal n
+  unfolding entryText
+  entry-next zero n e = absurd (e refl)
+  entry-next (suc i) n e = refl
 
-pub entries-append : (i : ℕ) (a b : List ℕ) → entries i (a ++ b) ≡ entries i a ++ entries (i + length a) b
-unfolding entries
-entries-append i [] b = rw add-zero
-entries-append i (n ∷ a) b = rw (entries-append (suc i) a b, append-assoc, add-suc, suc-add)
+  pub entries-append : (i : ℕ) (a b : List ℕ) → entries between i (a ++ b) ≡ entries between i a ++ entries between (i + length a) b
+  unfolding entries
+  entries-append i [] b = rw add-zero
+  entries-append i (n ∷ a) b = rw (entries-append (suc i) a b, append-assoc, add-suc, suc-add)
 
--- one entry more
-pub entries-more : (ns : List ℕ) (i : ℕ) → i < length ns → entries 0 (take (i + 1) ns) ≡ entries 0 (take i ns) ++ entryText i (getD ns i 0)
-unfolding entries
-entries-more ns i h =
-    rw (add-one, take-suc ns i 0 h, entries-append 0 (take i ns), append-nil)
-    (rw (zero-add, length-take-le i ns (le-of-lt h)))
+  -- one entry more
+  pub entries-more : (ns : List ℕ) (i : ℕ) → i < length ns → entries between 0 (take (i + 1) ns) ≡ entries between 0 (take i ns) ++ entryText between i (getD ns i 0)
+  unfolding entries
+  entries-more ns i h =
+      rw (add-one, take-suc ns i 0 h, entries-append 0 (take i ns), append-nil)
+      (rw (zero-add, length-take-le i ns (le-of-lt h)))
 
--- the first entries are no longer than all
-pub entries-front : (ns : List ℕ) (i : ℕ) → length (entries 0 (take i ns)) ≤ length (entries 0 ns)
-entries-front ns i =
-    omega (
-      arith,
-      ap (λ (l : List ℕ). length (entries 0 l)) (take-append-drop i ns),
-      simp length-append at (ap length (entries-append 0 (take i ns) (drop i ns))),
-    )
+  -- the first entries are no longer than all
+  pub entries-front : (ns : List ℕ) (i : ℕ) → length (entries between 0 (take i ns)) ≤ length (entries between 0 ns)
+  entries-front ns i =
+      omega (
+        arith,
+        ap (λ (l : List ℕ). length (entries between 0 l)) (take-append-drop i ns),
+        simp length-append at (ap length (entries-append 0 (take i ns) (drop i ns))),
+      )
 
-pub list-length : (ns : List ℕ) → length (listText ns) ≡ length (entries 0 ns) + 2
+pub list-length : (ns : List ℕ) → length (listText ns) ≡ length (entries (ascii ", ") 0 ns) + 2
 unfolding listText
 list-length ns = simp length-append (omega arith)
+
+pub refusal-length : (ns : List ℕ) → length (refusal ns) ≡ length (entries (ascii " ") 0 ns) + 9
+unfolding refusal
+refusal-length ns = simp length-append (omega arith)
+
+-- the line of one number
+pub refusal-short : (n : ℕ) → n < 2 ^ 64 → length (refusal (n ∷ [])) ≤ 29
+unfolding entries entryText
+refusal-short n h = omega (arith, refusal-length (n ∷ []), decimal-20 n h, length-append (decimal n) [])

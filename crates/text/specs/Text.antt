@@ -1,6 +1,6 @@
 -- Text as the list of its bytes, in ASCII, and what a buffer holds once a text was put into it.
 -- Assumes nothing.
-use Prim.Native.Nat.{ℕ, zero, suc, _+_, _-_, _*_, _/_, _%_}
+use Prim.Native.Nat.{ℕ, zero, suc, _+_, _/_, _%_, _≤_}
 use Prim.Native.Char.{code}
 use Prim.Native.String.{String}
 use Prim.Native.String as string
@@ -8,7 +8,7 @@ use mathlib.Core.Path.{_≡_}
 use mathlib.Core.Bool.{Bool, true, false}
 use mathlib.Core.List.{List, [], _∷_, _++_}
 use lib.Dec.{ltb}
-use lib.ListN.{length}
+use lib.ListN.{length, take}
 use lib.Seq.{sets}
 
 -- the bytes of a text that is written out here
@@ -24,42 +24,39 @@ digit d = 48 + d
 
 -- The digits of n, the most significant first, where `below` says whether n is below 10. The first argument bounds the
 -- depth and is no part of the meaning: any number above n serves.
-unfoldable pub digits : ℕ → Bool → ℕ → List ℕ
-digits zero below n = []
-digits (suc k) true n = digit n ∷ []
-digits (suc k) false n = digits k (ltb (n / 10) 10) (n / 10) ++ (digit (n % 10) ∷ [])
+unfoldable pub decimalDigits : ℕ → Bool → ℕ → List ℕ
+decimalDigits zero below n = []
+decimalDigits (suc k) true n = digit n ∷ []
+decimalDigits (suc k) false n = decimalDigits k (ltb (n / 10) 10) (n / 10) ++ (digit (n % 10) ∷ [])
 
 -- a number in decimal, with no needless zero in front: Rust's `{}`
 unfoldable pub decimal : ℕ → List ℕ
-unfolding digits
-decimal n = digits (suc n) (ltb n 10) n
+unfolding decimalDigits
+decimal n = decimalDigits (suc n) (ltb n 10) n
 
--- the number that digits stand for
-unfoldable pub valueFrom : ℕ → List ℕ → ℕ
-valueFrom n [] = n
-valueFrom n (d ∷ ds) = valueFrom (n * 10 + (d - 48)) ds
+-- ---- numbers in a row, with a text between them
 
-unfoldable pub value : List ℕ → ℕ
-unfolding valueFrom
-value ds = valueFrom 0 ds
-
--- ---- lists of numbers: Rust's `{:?}`, as [3, 7]
-
--- the number at an index: past the first it has a comma and a space in front
-unfoldable pub entryText : ℕ → ℕ → List ℕ
+-- the number at an index: past the first it has that text in front
+unfoldable pub entryText : List ℕ → ℕ → ℕ → List ℕ
 unfolding decimal
-entryText zero n = decimal n
-entryText (suc i) n = ascii ", " ++ decimal n
+entryText between zero n = decimal n
+entryText between (suc i) n = between ++ decimal n
 
 -- the numbers from an index on
-unfoldable pub entries : ℕ → List ℕ → List ℕ
+unfoldable pub entries : List ℕ → ℕ → List ℕ → List ℕ
 unfolding entryText
-entries i [] = []
-entries i (n ∷ ns) = entryText i n ++ entries (suc i) ns
+entries between i [] = []
+entries between i (n ∷ ns) = entryText between i n ++ entries between (suc i) ns
 
+-- a list of numbers, as [3, 7]: Rust's `{:?}`
 unfoldable pub listText : List ℕ → List ℕ
 unfolding entries
-listText ns = ascii "[" ++ (entries 0 ns ++ ascii "]")
+listText ns = ascii "[" ++ (entries (ascii ", ") 0 ns ++ ascii "]")
+
+-- the line that a program prints where something is turned away: `refused 13`, or with what belongs to it, `refused 27 4`
+unfoldable pub refusal : List ℕ → List ℕ
+unfolding entries
+refusal ns = ascii "refused " ++ (entries (ascii " ") 0 ns ++ ascii "\n")
 
 -- ---- a text in a lent buffer
 
@@ -69,3 +66,8 @@ listText ns = ascii "[" ++ (entries 0 ns ++ ascii "]")
 pub record Put (text entry : List ℕ) (at : ℕ) (exit : List ℕ) (next : ℕ) : Type 0 where
   pub stands : exit ≡ sets entry at text
   pub past : next ≡ at + length text
+
+-- A text that stands at the front of a buffer, and its length r. The second of the three follows from the others: it is stated so
+-- that the proof of `&buffer[..r]` finds it.
+abbrev pub Front : List ℕ → List ℕ → ℕ → Type 0
+Front text exit r = ((r ≤ length exit) × (r ≡ length (take r exit))) × (take r exit ≡ text)

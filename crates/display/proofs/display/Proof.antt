@@ -2,8 +2,9 @@
 -- Assumes nothing.
 use native.Mathlib.Omega.{arith}
 use mathlib.Core.Path.{sym, _∙_}
-use Rattle.rows.specs.Library.{library}
-use Rattle.rows.proofs.Check.{numbered, whole, whole-sound, divided}
+use Rattle.table.specs.Library.{library}
+use Rattle.rows.proofs.Check.{numbered, whole, in-order, divided}
+use Rattle.table.proofs.Libraries.{ordered}
 use Rattle.display.proofs.Answers.{refused-library, past-library, few, text-of-slots}
 use borrow.Author.Needs.{needs}
 use Rattle.display.proofs.display.Statement.{statement}
@@ -25,16 +26,8 @@ show-requires c κs =
     let passed = numbered (a .sheet) l (sym (c .before .if1 .left) ∙ c .before .before .library-fault .ensures) in
     let w = whole (a .sheet) l passed in
     let d = divided (a .sheet) (w .sheet) in
-    let o = whole-sound (a .sheet) (a .keys .now) (a .ids .now) (a .xs .now) (a .ys .now) (a .zs .now) (a .used) w in (
-      d .axes,
-      (
-        d .divisions,
-        (
-          record { in-keys = o .fits; in-ids = omega (arith, o .fits, o .ids-len); order = o .order },
-          omega (arith, o .fits, few (a .sheet) l (a .buffer .now) passed),
-        ),
-      ),
-    )
+    let o = in-order w in
+    (d .axes, (d .divisions, (ordered o, omega (arith, o .room .0, few (a .sheet) l (a .buffer .now) passed))))
 
 same-length : tie.Need-same-length
 same-length c = search needs
@@ -44,7 +37,7 @@ returns-2 c =
     let a = c .before .before .before .before .before .before .before .before .before .before .before .before .args in
     let l = library (a .keys .now) (a .ids .now) (a .xs .now) (a .ys .now) (a .zs .now) (a .used) in
     let passed = numbered (a .sheet) l (sym (c .before .before .before .before .if1 .left) ∙ c .before .before .before .before .before .library-fault .ensures) in
-    rw (past-library (a .sheet) l (a .buffer .now) passed, text-of-slots (a .sheet) (a .keys .now) (a .ids .now) (a .xs .now) (a .ys .now) (a .zs .now) (a .used))
+    rw (past-library (a .sheet) l (a .buffer .now) passed, text-of-slots (a .sheet) l)
     (c .before .before .show .ensures)
 
 pub display-spec : {M : Type 1} → statement M

@@ -11,12 +11,15 @@ use Rattle.display.proofs.put_all.Statement.{statement}
 use Rattle.display.proofs.put_all.Tie as tie
 
 put-lines-requires : tie.Need-put-lines-requires
-put-lines-requires c κs = (c .before .before .before .before .before .pre .1 .0, omega (arith, whole-length (counts (c .before .before .before .before .before .args .ndim) (c .before .before .before .before .before .args .ndiv)) (slotsOf (c .before .before .before .before .before .args .keys .now) (c .before .before .before .before .before .args .ids .now) (c .before .before .before .before .before .args .used)), c .before .before .before .before .before .pre .1 .1 .1))
+put-lines-requires c κs =
+    let start = c .before .before .before .before .before in
+    (start .pre .1 .0, omega (arith, whole-length (counts (start .args .ndim) (start .args .ndiv)) (slotsOf (start .args .keys .now) (start .args .ids .now) (start .args .used)), start .pre .1 .1 .1))
 
 put-summary-requires : tie.Need-put-summary-requires
 put-summary-requires c κs =
-    let p = c .before .before .before .before .before .before .before .before .before .pre in
-    (p .0, (p .1 .0, (p .1 .1 .0, omega (arith, whole-length (counts (c .before .before .before .before .before .before .before .before .before .args .ndim) (c .before .before .before .before .before .before .before .before .before .args .ndiv)) (slotsOf (c .before .before .before .before .before .before .before .before .before .args .keys .now) (c .before .before .before .before .before .before .before .before .before .args .ids .now) (c .before .before .before .before .before .before .before .before .before .args .used)), c .before .before .before .put-lines .ensures .past, p .1 .1 .1))))
+    let start = c .before .before .before .before .before .before .before .before .before in
+    let p = start .pre in
+    (p .0, (p .1 .0, (p .1 .1 .0, omega (arith, whole-length (counts (start .args .ndim) (start .args .ndiv)) (slotsOf (start .args .keys .now) (start .args .ids .now) (start .args .used)), c .before .before .before .put-lines .ensures .past, p .1 .1 .1))))
 
 same-length : tie.Need-same-length
 same-length c = search needs

@@ -27,7 +27,9 @@ put-list-requires : tie.Need-put-list-requires
 put-list-requires c κs = omega (arith, named-length (ascii "ndiv") (listText (counts (c .before .before .before .before .before .before .before .before .args .ndim) (c .before .before .before .before .before .before .before .before .args .ndiv))))
 
 put-byte-requires : tie.Need-put-byte-requires
-put-byte-requires c κs = omega (arith, named-length (ascii "ndiv") (listText (counts (c .before .before .before .before .before .before .before .before .before .before .before .before .args .ndim) (c .before .before .before .before .before .before .before .before .before .before .before .before .args .ndiv))))
+put-byte-requires c κs =
+    let start = c .before .before .before .before .before .before .before .before .before .before .before .before in
+    omega (arith, named-length (ascii "ndiv") (listText (counts (start .args .ndim) (start .args .ndiv))))
 
 same-length : tie.Need-same-length
 same-length c = search needs

@@ -21,14 +21,19 @@ put-list-requires : tie.Need-put-list-requires
 put-list-requires c κs = omega (arith, line-length (c .before .before .before .before .before .before .before .before .before .before .before .before .args .key) (c .before .before .before .before .before .before .before .before .before .before .before .before .args .ids .now))
 
 put-byte-requires : tie.Need-put-byte-requires
-put-byte-requires c κs = omega (arith, line-length (c .before .before .before .before .before .before .before .before .before .before .before .before .before .before .before .before .args .key) (c .before .before .before .before .before .before .before .before .before .before .before .before .before .before .before .before .args .ids .now))
+put-byte-requires c κs =
+    let start = c .before .before .before .before .before .before .before .before .before .before .before .before .before .before .before .before in
+    omega (arith, line-length (start .args .key) (start .args .ids .now))
 
 same-length : tie.Need-same-length
 same-length c = search needs
 
 returns : tie.Need-returns
 unfolding line
-returns c = put-both (c .before .before .before .before .before .before .before .before .before .before .before .before .before .before .before .put-decimal .ensures) (put-both (c .before .before .before .before .before .before .before .before .before .before .put-text .ensures) (put-both (c .before .before .before .before .before .before .put-list .ensures) (c .before .before .put-byte .ensures)))
+returns c =
+    put-both (c .before .before .before .before .before .before .before .before .before .before .before .before .before .before .before .put-decimal .ensures)
+    (put-both (c .before .before .before .before .before .before .before .before .before .before .put-text .ensures)
+    (put-both (c .before .before .before .before .before .before .put-list .ensures) (c .before .before .put-byte .ensures)))
 
 pub put-line-spec : {M : Type 1} → statement M
 put-line-spec =

@@ -50,20 +50,25 @@ part-put-line-end c = search needs
 
 put-line-requires : tie.Need-put-line-requires Inv-loop μ-loop
 put-line-requires c κs =
-    let keys = c .before .before .before .before .before .before .before .before .before .args .keys .now in
-    let ids = c .before .before .before .before .before .before .before .before .before .args .ids .now in
-    let turn = lines-turn keys ids (c .before .before .before .before .before .before .before .before .before .args .used) (c .before .before .before .before .before .loop .i) (c .before .before .before .run-end .result) (c .before .before .before .before .before .before .before .before .before .pre .0) (c .before .before .before .run-end .ensures) in
-    omega (arith, simp length-append at (ap length turn), c .before .before .before .before .before .loop .inv .1 .to-pass, c .before .before .before .before .before .before .before .before .before .pre .1)
+    let start = c .before .before .before .before .before .before .before .before .before in
+    let round = c .before .before .before .before .before in
+    let keys = start .args .keys .now in
+    let ids = start .args .ids .now in
+    let turn = lines-turn keys ids (start .args .used) (round .loop .i) (c .before .before .before .run-end .result) (start .pre .0) (c .before .before .before .run-end .ensures) in
+    omega (arith, simp length-append at (ap length turn), round .loop .inv .1 .to-pass, start .pre .1)
 
 loop-less : tie.Need-loop-less Inv-loop μ-loop
 loop-less c = search needs
 
 loop-again : tie.Need-loop-again Inv-loop μ-loop
 loop-again c =
-    let keys = c .before .before .before .before .before .before .before .before .before .before .before .before .args .keys .now in
-    let ids = c .before .before .before .before .before .before .before .before .before .before .before .before .args .ids .now in
-    let turn = lines-turn keys ids (c .before .before .before .before .before .before .before .before .before .before .before .before .args .used) (c .before .before .before .before .before .before .before .before .loop .i) (c .before .before .before .before .before .before .run-end .result) (c .before .before .before .before .before .before .before .before .before .before .before .before .pre .0) (c .before .before .before .before .before .before .run-end .ensures) in
-    (search needs, left-put (rw turn at (c .before .before .before .before .before .before .before .before .loop .inv .1)) (c .before .before .put-line .ensures))
+    let start = c .before .before .before .before .before .before .before .before .before .before .before .before in
+    let round = c .before .before .before .before .before .before .before .before in
+    let at6 = c .before .before .before .before .before .before in
+    let keys = start .args .keys .now in
+    let ids = start .args .ids .now in
+    let turn = lines-turn keys ids (start .args .used) (round .loop .i) (at6 .run-end .result) (start .pre .0) (at6 .run-end .ensures) in
+    (search needs, left-put (rw turn at (round .loop .inv .1)) (c .before .before .put-line .ensures))
 
 same-length : tie.Need-same-length Inv-loop μ-loop
 same-length c = c .before .loop .inv .1 .same-length

@@ -22,14 +22,19 @@ put-decimal-requires : tie.Need-put-decimal-requires
 put-decimal-requires c κs = omega (arith, named-length (c .before .before .before .before .before .before .before .before .before .before .before .before .args .name .now) (decimal (c .before .before .before .before .before .before .before .before .before .before .before .before .args .n)))
 
 put-byte-requires : tie.Need-put-byte-requires
-put-byte-requires c κs = omega (arith, named-length (c .before .before .before .before .before .before .before .before .before .before .before .before .before .before .before .before .args .name .now) (decimal (c .before .before .before .before .before .before .before .before .before .before .before .before .before .before .before .before .args .n)))
+put-byte-requires c κs =
+    let start = c .before .before .before .before .before .before .before .before .before .before .before .before .before .before .before .before in
+    omega (arith, named-length (start .args .name .now) (decimal (start .args .n)))
 
 same-length : tie.Need-same-length
 same-length c = search needs
 
 returns : tie.Need-returns
 unfolding named
-returns c = put-both (c .before .before .before .before .before .before .before .before .before .before .before .before .before .before .before .put-text .ensures) (put-both (c .before .before .before .before .before .before .before .before .before .before .put-text2 .ensures) (put-both (c .before .before .before .before .before .before .put-decimal .ensures) (c .before .before .put-byte .ensures)))
+returns c =
+    put-both (c .before .before .before .before .before .before .before .before .before .before .before .before .before .before .before .put-text .ensures)
+    (put-both (c .before .before .before .before .before .before .before .before .before .before .put-text2 .ensures)
+    (put-both (c .before .before .before .before .before .before .put-decimal .ensures) (c .before .before .put-byte .ensures)))
 
 pub put-number-spec : {M : Type 1} → statement M
 put-number-spec =

@@ -55,8 +55,9 @@ same-length c = search needs
 
 returns : tie.Need-returns
 returns c =
-    let text = slotsText (counts (c .before .before .before .before .before .before .before .before .before .before .before .before .before .args .ndim) (c .before .before .before .before .before .before .before .before .before .before .before .before .before .args .ndiv)) (slotsOf (c .before .before .before .before .before .before .before .before .before .before .before .before .before .args .keys .now) (c .before .before .before .before .before .before .before .before .before .before .before .before .before .args .ids .now) (c .before .before .before .before .before .before .before .before .before .before .before .before .before .args .used)) in
-    let buffer = c .before .before .before .before .before .before .before .before .before .before .before .before .before .args .buffer .now in
+    let start = c .before .before .before .before .before .before .before .before .before .before .before .before .before in
+    let text = slotsText (counts (start .args .ndim) (start .args .ndiv)) (slotsOf (start .args .keys .now) (start .args .ids .now) (start .args .used)) in
+    let buffer = start .args .buffer .now in
     let none : c .before .before .before .put-all .last .0 ≡ [] = nothing _ (c .before .before .before .put-all .kept .0) in
     let long : length buffer < length text = omega (arith, c .before .before .before .put-all .ensures .past, rw none at (c .if1 .taken)) in
     too-short text buffer _ long (rw none)
@@ -86,10 +87,12 @@ same-length-2 c = search needs
 
 returns-2 : tie.Need-returns-2
 returns-2 c =
-    let text = slotsText (counts (c .before .before .before .before .before .before .before .before .before .before .before .before .before .before .before .before .before .before .args .ndim) (c .before .before .before .before .before .before .before .before .before .before .before .before .before .before .before .before .before .before .args .ndiv)) (slotsOf (c .before .before .before .before .before .before .before .before .before .before .before .before .before .before .before .before .before .before .args .keys .now) (c .before .before .before .before .before .before .before .before .before .before .before .before .before .before .before .before .before .before .args .ids .now) (c .before .before .before .before .before .before .before .before .before .before .before .before .before .before .before .before .before .before .args .used)) in
-    let buffer = c .before .before .before .before .before .before .before .before .before .before .before .before .before .before .before .before .before .before .args .buffer .now in
-    let none : c .before .before .before .before .before .before .before .before .put-all .last .0 ≡ [] = nothing _ (c .before .before .before .before .before .before .before .before .put-all .kept .0) in
-    let long = c .before .before .before .before .before .before .before .before .put-all .ensures .past in
+    let start = c .before .before .before .before .before .before .before .before .before .before .before .before .before .before .before .before .before .before in
+    let at8 = c .before .before .before .before .before .before .before .before in
+    let text = slotsText (counts (start .args .ndim) (start .args .ndiv)) (slotsOf (start .args .keys .now) (start .args .ids .now) (start .args .used)) in
+    let buffer = start .args .buffer .now in
+    let none : at8 .put-all .last .0 ≡ [] = nothing _ (at8 .put-all .kept .0) in
+    let long = at8 .put-all .ensures .past in
     let room : length text ≤ length buffer = omega (arith, long, rw none at (c .before .before .before .before .before .if1 .left)) in
     fits text buffer _ _ room (omega (arith, long)) (put-over (rw none at (c .before .before .put-all2 .ensures)) room)
 

@@ -3,18 +3,22 @@
 use native.Mathlib.Omega.{arith}
 use mathlib.Core.Path.{_≡_}
 use lib.ListN.{length}
-use Rattle.outcome.proofs.Texts.{refusal-front}
 use borrow.Author.Needs.{needs}
+use Rattle.text.proofs.Laws.{refusal-short}
+use Rattle.outcome.proofs.Texts.{refusal-front}
 use Rattle.outcome.proofs.put_refused.Statement.{statement}
 use Rattle.outcome.proofs.put_refused.Tie as tie
 
+slice-aggregate-put-refusal : tie.Need-slice-aggregate-put-refusal
+slice-aggregate-put-refusal c = search needs
+
 put-refusal-requires : tie.Need-put-refusal-requires
-put-refusal-requires c κs = search needs
+put-refusal-requires c κs = omega (arith, refusal-short (c .before .before .args .number) (c .before .before .fits .number .fits))
 
 returns : tie.Need-returns
 returns c =
-    let room : 70804 ≡ length (c .before .before .args .text .now) = search needs in
-    refusal-front (c .before .before .args .number) (c .put-refusal .ensures) (c .before .before .fits .number .fits) (omega (arith, room))
+    let room : 70804 ≡ length (c .before .before .before .args .text .now) = search needs in
+    refusal-front (c .before .before .before .args .number) (c .put-refusal .ensures) (c .before .before .before .fits .number .fits) (omega (arith, room))
 
 pub put-refused-spec : {M : Type 1} → statement M
-put-refused-spec = tie.close (tie.spec put-refusal-requires returns)
+put-refused-spec = tie.close (tie.spec slice-aggregate-put-refusal put-refusal-requires returns)

@@ -1,6 +1,5 @@
 -- The sum of the code is the definition's, one product inside the other.
 -- Assumes nothing.
-use native.Mathlib.Omega.{arith}
 use Rattle.records.proofs.Laws.{number-of}
 use borrow.Author.Needs.{needs}
 use Rattle.records.proofs.number_at.Statement.{statement}
@@ -119,6 +118,7 @@ add-result-7 c = search needs
 
 returns : tie.Need-returns
 returns c =
+    let start = c .before .before .before .before .before .before .before .before .before .before .before .before .before .before .before .before .before in
     rw (
       c .before .before .before .before .before .before .before .before .before .before .before .before .before .before .wide .ensures .0,
       c .before .before .before .before .before .before .before .before .before .before .before .before .wide2 .ensures .0,
@@ -129,7 +129,7 @@ returns c =
       c .before .before .wide7 .ensures .0,
       c .wide8 .ensures .0,
     )
-    (number-of (c .before .before .before .before .before .before .before .before .before .before .before .before .before .before .before .before .before .args .bytes .now) (c .before .before .before .before .before .before .before .before .before .before .before .before .before .before .before .before .before .args .at) (search needs))
+    (number-of (start .args .bytes .now) (start .args .at) (search needs))
 
 pub number-at-spec : {M : Type 1} → statement M
 number-at-spec =

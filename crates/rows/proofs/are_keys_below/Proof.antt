@@ -11,18 +11,9 @@ returns : tie.Need-returns
 unfolding all
 returns c = rw (c .if1 .taken)
 
-sub-result : tie.Need-sub-result
-sub-result c = search needs
-
-mul-result : tie.Need-mul-result
-mul-result c = search needs
-
-shared-slice-read-result : tie.Need-shared-slice-read-result
-shared-slice-read-result c = search needs
-
 returns-2 : tie.Need-returns-2
 returns-2 c = let a = c .before .before in last-key (a .pre) (omega arith) (a .args .count)
 
 pub are-keys-below-spec : {M : Type 1} → statement M
 are-keys-below-spec =
-    tie.close (tie.spec returns sub-result mul-result shared-slice-read-result returns-2)
+    tie.close (tie.spec returns (λ c. search needs) (λ c. search needs) (λ c. search needs) returns-2)

@@ -19,24 +19,6 @@ Inv-loop s n ok₀ i₀ ok i = (i ≤ n) × (all plusZero (take n s) ≡ (ok && 
 abbrev μ-loop : tie.MeasureT-loop
 μ-loop s n ok₀ i₀ ok i = n - i
 
-loop-holds : tie.Need-loop-holds Inv-loop μ-loop
-loop-holds c = search needs
-
-mul-same-bits : tie.Need-mul-same-bits Inv-loop μ-loop
-mul-same-bits c = search needs
-
-shared-slice-read-same-bits : tie.Need-shared-slice-read-same-bits Inv-loop μ-loop
-shared-slice-read-same-bits c = search needs
-
-same-bits-requires : tie.Need-same-bits-requires Inv-loop μ-loop
-same-bits-requires c κs = search needs
-
-add-i : tie.Need-add-i Inv-loop μ-loop
-add-i c = search needs
-
-loop-less : tie.Need-loop-less Inv-loop μ-loop
-loop-less c = search needs
-
 loop-again : tie.Need-loop-again Inv-loop μ-loop
 unfolding ofBits
 loop-again c =
@@ -57,11 +39,11 @@ are-plus-zeros-spec =
     (tie.spec
     Inv-loop
     μ-loop
-    loop-holds
-    mul-same-bits
-    shared-slice-read-same-bits
-    same-bits-requires
-    add-i
-    loop-less
+    (λ c. search needs)
+    (λ c. search needs)
+    (λ c. search needs)
+    (λ c κs. search needs)
+    (λ c. search needs)
+    (λ c. search needs)
     loop-again
     returns)

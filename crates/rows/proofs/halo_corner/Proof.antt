@@ -4,15 +4,6 @@ use borrow.Author.Needs.{needs}
 use Rattle.rows.proofs.halo_corner.Statement.{statement}
 use Rattle.rows.proofs.halo_corner.Tie as tie
 
-shifted-requires : tie.Need-shifted-requires
-shifted-requires c κs = search needs
-
-shifted-requires-2 : tie.Need-shifted-requires-2
-shifted-requires-2 c κs = search needs
-
-shifted-requires-3 : tie.Need-shifted-requires-3
-shifted-requires-3 c κs = search needs
-
 returns : tie.Need-returns
 returns c =
     let start = c .before .before .before in
@@ -21,4 +12,4 @@ returns c =
 
 pub halo-corner-spec : {M : Type 1} → statement M
 halo-corner-spec =
-    tie.close (tie.spec shifted-requires shifted-requires-2 shifted-requires-3 returns)
+    tie.close (tie.spec (λ c κs. search needs) (λ c κs. search needs) (λ c κs. search needs) returns)

@@ -1,119 +1,55 @@
 -- `search` meets its contract: a law for each way out.
 -- Assumes nothing.
-use mathlib.Core.List.{List}
-use lib.Ieee.{Float}
-use Rattle.grid.specs.Divisions.{counts}
-use Rattle.grid.specs.Containers.{located}
-use mathlib.Core.Path.{sym, ap, _∙_}
-use Rattle.basics.specs.Refusals.{success}
-use Rattle.geometry.specs.Position.{coords}
-use Rattle.geometry.proofs.Axes.{coords-of}
-use Rattle.rows.specs.Library.{library}
-use Rattle.rows.proofs.Check.{divided, whole, numbered, whole-sound}
-use Rattle.rows.proofs.Targets.{located-key, located-not}
-use Rattle.rows.proofs.Answers.{position-numbered, position-length}
-use Rattle.search.proofs.Answers.{search-library, search-position, search-exceeds, search-finds, near-is}
+use mathlib.Core.Path.{sym, _∙_}
 use borrow.Author.Needs.{needs}
+use Rattle.rows.proofs.Answers.{called, called-sheet, called-order, called-at, called-key, called-container, called-exceeds}
+use Rattle.search.proofs.Answers.{search-first, search-exceeds, search-finds}
 use Rattle.search.proofs.search.Statement.{statement}
 use Rattle.search.proofs.search.Tie as tie
 
-library-fault-requires : tie.Need-library-fault-requires
-library-fault-requires c κs = search needs
-
 returns : tie.Need-returns
-returns c =
-    let start = c .before .before .before .before .before .before .before .before in
-    let s = start .args .sheet in
-    let x = start .args .x .now in
-    let l = library (start .args .keys .now) (start .args .ids .now) (start .args .xs .now) (start .args .ys .now) (start .args .zs .now) (start .args .used) in
-    search-library s l x (c .before .library-fault .result) (c .before .library-fault .ensures) (c .if1 .taken)
-
-position-fault-requires : tie.Need-position-fault-requires
-position-fault-requires c κs =
-    let start = c .before .before .before .before .before .before .before .before in
-    let s = start .args .sheet in
-    let l = library (start .args .keys .now) (start .args .ids .now) (start .args .xs .now) (start .args .ys .now) (start .args .zs .now) (start .args .used) in
-    let none = numbered s l (sym (c .if1 .left) ∙ c .before .library-fault .ensures) in
-    let w = whole s l none in
-    divided s (w .sheet) .axes
-
-returns-2 : tie.Need-returns-2
-returns-2 c =
-    let start = c .before .before .before .before .before .before .before .before .before .before in
-    let s = start .args .sheet in
-    let x = start .args .x .now in
-    let l = library (start .args .keys .now) (start .args .ids .now) (start .args .xs .now) (start .args .ys .now) (start .args .zs .now) (start .args .used) in
-    let none = numbered s l (sym (c .before .before .if1 .left) ∙ c .before .before .before .library-fault .ensures) in
-    search-position s l x none (c .before .position-fault .result) (c .before .position-fault .ensures) (c .if2 .taken)
-
-new-requires : tie.Need-new-requires
-new-requires c κs = search needs
+returns c = let a = c .before .before .before .before .before .before .before .before in search-first (a .args .sheet) _ (a .args .x .now) (c .before .call-fault .ensures) (c .if1 .taken)
 
 calc-container-key-requires : tie.Need-calc-container-key-requires
 calc-container-key-requires c κs =
-    let start = c .before .before .before .before .before .before .before .before .before .before .before in
-    let s = start .args .sheet in
-    let l = library (start .args .keys .now) (start .args .ids .now) (start .args .xs .now) (start .args .ys .now) (start .args .zs .now) (start .args .used) in
-    let none = numbered s l (sym (c .before .before .before .if1 .left) ∙ c .before .before .before .before .library-fault .ensures) in
-    let w = whole s l none in
-    let d = divided s (w .sheet) in
+    let a = c .before .before .before .before .before .before .before .before .before in
+    let s = a .args .sheet in
+    let d = called-sheet s _ _ (called s _ (a .args .x .now) (sym (c .before .if1 .left) ∙ c .before .before .call-fault .ensures)) in
     (d .axes, d .divisions)
 
-enum-known-place : tie.Need-enum-known-place
-enum-known-place c = search needs
-
-enum-told : tie.Need-enum-told
-enum-told c = search needs
-
-returns-3 : tie.Need-returns-3
-returns-3 c =
-    let start = c .before .before .before .before .before .before .before .before .before .before .before .before .before .before in
-    let after-new = c .before .before .before in
-    let s = start .args .sheet in
-    let x = start .args .x .now in
-    let l = library (start .args .keys .now) (start .args .ids .now) (start .args .xs .now) (start .args .ys .now) (start .args .zs .now) (start .args .used) in
-    let none = numbered s l (sym (c .before .before .before .before .before .before .if1 .left) ∙ c .before .before .before .before .before .before .before .library-fault .ensures) in
-    let w = whole s l none in
-    let pos = position-numbered s x (sym (c .before .before .before .before .if2 .left) ∙ c .before .before .before .before .before .position-fault .ensures) in
-    let e = coords-of (s .ndim) x (after-new .new .result) (divided s (w .sheet) .axes) (position-length s x pos) (after-new .new .ensures) in
-    search-exceeds s l x none pos (located-not s x (ap (λ (y : List Float). located (counts (s .ndim) (s .ndiv)) (s .«side_length») (coords (s .ndim) (s .xmin)) y) (sym e) ∙ sym (c .before .before .calc-container-key .ensures) ∙ c .enum-told .given .1))
+returns-2 : tie.Need-returns-2
+returns-2 c =
+    let a = c .before .before .before .before .before .before .before .before .before .before .before .before in
+    let s = a .args .sheet in
+    let k = called s _ (a .args .x .now) (sym (c .before .before .before .before .if1 .left) ∙ c .before .before .before .before .before .call-fault .ensures) in
+    search-exceeds s _ _ k (called-exceeds s _ _ k (c .before .before .before .new .ensures) (sym (c .before .before .calc-container-key .ensures) ∙ c .enum-told .given .1))
 
 find-near-requires : tie.Need-find-near-requires
 find-near-requires c κs =
-    let start = c .before .before .before .before .before .before .before .before .before .before .before .before .before .before .before in
-    let s = start .args .sheet in
-    let l = library (start .args .keys .now) (start .args .ids .now) (start .args .xs .now) (start .args .ys .now) (start .args .zs .now) (start .args .used) in
-    let none = numbered s l (sym (c .before .before .before .before .before .before .before .if1 .left) ∙ c .before .before .before .before .before .before .before .before .library-fault .ensures) in
-    let w = whole s l none in
-    (divided s (w .sheet) .axes, whole-sound s (start .args .keys .now) (start .args .ids .now) (start .args .xs .now) (start .args .ys .now) (start .args .zs .now) (start .args .used) w)
+    let a = c .before .before .before .before .before .before .before .before .before .before .before .before .before in
+    let s = a .args .sheet in
+    let k = called s _ (a .args .x .now) (sym (c .before .before .before .before .before .if1 .left) ∙ c .before .before .before .before .before .before .call-fault .ensures) in
+    let n = c .before .before .before .before .new .ensures in
+    (called-sheet s _ _ k .axes, (called-container s _ _ k n (sym (c .before .before .before .calc-container-key .ensures) ∙ c .before .place .given .1), called-order s _ _ k))
 
-returns-4 : tie.Need-returns-4
-returns-4 c =
-    let start = c .before .before .before .before .before .before .before .before .before .before .before .before .before .before .before .before in
-    let after-new = c .before .before .before .before .before in
-    let after-place = c .before .before in
-    let s = start .args .sheet in
-    let x = start .args .x .now in
-    let l = library (start .args .keys .now) (start .args .ids .now) (start .args .xs .now) (start .args .ys .now) (start .args .zs .now) (start .args .used) in
-    let none = numbered s l (sym (c .before .before .before .before .before .before .before .before .if1 .left) ∙ c .before .before .before .before .before .before .before .before .before .library-fault .ensures) in
-    let w = whole s l none in
-    let pos = position-numbered s x (sym (c .before .before .before .before .before .before .if2 .left) ∙ c .before .before .before .before .before .before .before .position-fault .ensures) in
-    let e = coords-of (s .ndim) x (after-new .new .result) (divided s (w .sheet) .axes) (position-length s x pos) (after-new .new .ensures) in
-    let k = located-key s x (ap (λ (y : List Float). located (counts (s .ndim) (s .ndiv)) (s .«side_length») (coords (s .ndim) (s .xmin)) y) (sym e) ∙ sym (c .before .before .before .before .calc-container-key .ensures) ∙ after-place .place .given .1) in
-    c .find-near .ensures ∙ ap success (near-is s (start .args .keys .now) (start .args .ids .now) (start .args .xs .now) (start .args .ys .now) (start .args .zs .now) (start .args .used) (after-place .place .given .0 .0 .0) x (coords (s .ndim) (after-new .new .result)) (k .1) e) ∙ search-finds s l x none pos (k .0)
+returns-3 : tie.Need-returns-3
+returns-3 c =
+    let a = c .before .before .before .before .before .before .before .before .before .before .before .before .before .before in
+    let s = a .args .sheet in
+    let k = called s _ (a .args .x .now) (sym (c .before .before .before .before .before .before .if1 .left) ∙ c .before .before .before .before .before .before .before .call-fault .ensures) in
+    let n = c .before .before .before .before .before .new .ensures in
+    c .find-near .ensures ∙ search-finds s _ _ k (called-at s _ _ k n) (called-key s _ _ k n (sym (c .before .before .before .before .calc-container-key .ensures) ∙ c .before .before .place .given .1) .0)
 
 pub search-spec : {M : Type 1} → statement M
 search-spec =
     tie.close
     (tie.spec
-    library-fault-requires
+    (λ c κs. search needs)
     returns
-    position-fault-requires
-    returns-2
-    new-requires
+    (λ c κs. search needs)
     calc-container-key-requires
-    enum-known-place
-    enum-told
-    returns-3
+    (λ c. search needs)
+    (λ c. search needs)
+    returns-2
     find-near-requires
-    returns-4)
+    returns-3)

@@ -1,0 +1,15 @@
+-- Each line of the examples gives what it states, by evaluation: one proof for the starred lines, and one for those beside them.
+-- Assumes nothing.
+use mathlib.Core.Path.{refl}
+use lib.Ieee.{add, sub, mul, div, ofInt, toUnsigned}
+use Rattle.floats.specs.Tests.{within}
+use Rattle.table.specs.Rows.{before, same, chain, putRow}
+use Rattle.examples.specs.Examples.{Agree, lines, room, others, fourRows}
+
+pub as-stated : Agree lines
+unfolding lines add sub mul div ofInt toUnsigned within room before same chain putRow
+as-stated = (refl, (refl, (refl, (refl, (refl, (refl, (refl, (refl, (refl, (refl, (refl, (refl, (refl, (refl, (refl, (refl, (refl, (refl, (refl, (refl, (refl, (refl, (refl, tt)))))))))))))))))))))))
+
+pub others-stated : Agree others
+unfolding others add sub mul div ofInt toUnsigned within room fourRows before same chain putRow
+others-stated = (refl, (refl, (refl, (refl, (refl, (refl, tt))))))
