@@ -26,7 +26,8 @@ use Rattle.cell_rows.proofs.Over.{take-over, length-over}
 use Rattle.grid_cells.specs.declared.GridCells.{GridCells}
 use Rattle.grid_cells.specs.Build.{IndexLists, listsTooLong, FiledIndex, fileIndex, make, index, containersOf, lowCorner, highCorner, cellSide, sizeTests, settleBuild}
 use Rattle.sorting.specs.Ascent.{ascending}
-use Rattle.cell_index.specs.Index.{goodIndex, enoughEntries, goodSlot, goodRows, goodNumbers, soundIndex, indexTests, cellRows, largeCells}
+use Rattle.cell_index.specs.Index.{goodIndex, enoughEntries, goodRows, goodNumbers, soundIndex, indexTests, cellRows, largeCells}
+use Rattle.cell_index.proofs.Linked.{goodSlot}
 use Rattle.cell_search.specs.Search.{askedTests, cellSearchTests}
 use Rattle.cell_claims.specs.Claims.{inBinary64, BuiltIsSound, BuiltServes}
 use Rattle.cell_claims.proofs.Accepted.{Accepted, of-built}
@@ -114,7 +115,7 @@ module _ (n : ℕ) (m : Mesh) (t : Settings) (l : IndexLists) (a : Accepted n m 
   good-slot = goodSlot (containers (counts (k .grid .ndim) (k .grid .ndiv))) (cellCount n m)
 
   filed : RowsGood good-slot (k .rows)
-  unfolding make fileIndex index lowCorner highCorner goodSlot
+  unfolding make fileIndex index lowCorner highCorner
   filed =
       let g = containersOf (k .grid) in
       let r = framed (k .grid) n (t .«border_tol») (cellSide w t) low high (a .axes) parts (ends .0) (ends .1) in
