@@ -11,7 +11,7 @@ use lib.ListN.{length, getD, take, drop, set, length-append, length-map, length-
 use lib.Seq.{getD-set-same, getD-set-other, getD-take, take-append-seam, take-suc, take-suc-set, take-set-le, length-take-le, drop-cons, set-at, append-snoc}
 use borrow.Author.Tests.{lt-ltb, le-ltb}
 use Rattle.basics.proofs.Bools.{by-test}
-use Rattle.basics.specs.Lists.{keep, tab, enter, over}
+use Rattle.basics.specs.Lists.{keep, tab, over}
 use Rattle.basics.proofs.Lists.{map-take}
 use Rattle.basics.specs.Refusals.{fault}
 use Rattle.geometry.specs.declared.Position.{Position}
@@ -42,12 +42,6 @@ keep-append : {A : Type 0} (p : A → Bool) (xs ys : List A) → keep p (xs ++ y
 unfolding keep
 keep-append p [] ys = refl
 keep-append p (x ∷ xs) ys = by-test (p x) (λ e. rw e (ap (λ (l : List _). x ∷ l) (keep-append p xs ys))) (λ e. rw e (keep-append p xs ys))
-
--- the ids of the rows that count are the numbers of a list, ascending, once each
-ids-distinct : (p : Row → Bool) (rows : List Row) → idsOf p rows ≡ distinct (map idIn (keep p rows))
-unfolding idsOf keep distinct
-ids-distinct p [] = refl
-ids-distinct p (r ∷ rows) = by-test (p r) (λ e. rw e (ap (enter (idIn r)) (ids-distinct p rows))) (λ e. rw e (ids-distinct p rows))
 
 -- the place left, where the next one is past the end
 pub last-place : (b : Bool) (n m room : ℕ) → m ≡ cond b (n + 1) n → n < room → m ≡ room → room ≡ n + 1
@@ -173,11 +167,11 @@ module _ {s : GridSearch} {p : Place} {f : Filter} {l : Library} where
   -- where the last row was reached, the ids of the marks are those of the listing
   pub walked-all : {r : Reached} {marks list after : List ℕ} {a : Listed} → Walked s p f l r marks → l .used ≤ r .row
       → Out (distinct (map (markId (l .ids)) (take (r .marked) marks))) list a after → Out (idsOf (on s p f) (table l)) list a after
-  unfolding table
+  unfolding table idsOf
   walked-all {r} {marks} {list} {after} {a} w h o =
       let e : r .row ≡ l .used = omega (arith, w .upto) in
       let g : Gathered s p f l (l .used) (r .marked) marks = subst (λ (k : ℕ). Gathered s p f l k (r .marked) marks) e (w .gathered) in
-      subst (λ (found : List ℕ). Out found list a after) (ap distinct (g .ids-are) ∙ sym (ids-distinct (on s p f) (rowsOf l (l .used)))) o
+      subst (λ (found : List ℕ). Out found list a after) (ap distinct (g .ids-are)) o
 
 -- ---- whether a row counts, by its container and by itself
 
