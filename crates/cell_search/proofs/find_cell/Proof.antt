@@ -93,6 +93,9 @@ outer-again-2 c = let z = c .before .before in
     let next = seek-coords (o .before .outer .inv) (s .pre .1 .0 .room) (o .outer-test .taken) (b .result) (b .ensures) in-box (z .cell-coords .ensures) (c .before .in-cell .ensures) (c .if2 .left) in
     rw (l .before .loop .inv .0) next
 
+same-length-2 : tie.Need-same-length-2 Inv-loop μ-loop Inv-outer μ-outer
+same-length-2 c = search needs
+
 returns-2 : tie.Need-returns-2 Inv-loop μ-loop Inv-outer μ-outer
 returns-2 c = seek-end (c .before .outer .inv) (c .before .before .before .before .before .before .pre .1 .0 .room) (c .outer-test .left)
 
@@ -124,5 +127,5 @@ find-cell-spec =
     add-at-2
     outer-less-2
     outer-again-2
-    (λ c. search needs)
+    same-length-2
     returns-2)
