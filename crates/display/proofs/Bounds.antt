@@ -12,6 +12,7 @@ use borrow.Author.Tests.{lt-ltb, ne-eqb, ltb-true, ltb-false, eqb-true, eqb-fals
 use Rattle.basics.proofs.Bools.{by-test, both, and-left, and-right}
 use Rattle.basics.specs.Lists.{all, keep, tab, enter}
 use Rattle.basics.proofs.Lists.{length-tab, getD-tab}
+use Rattle.geometry.proofs.Axes.{few-axes}
 use Rattle.display.proofs.Kept.{all-by, all-weaker}
 use Rattle.geometry.specs.Position.{dimension}
 use Rattle.grid.specs.declared.Divisions.{Divisions}
@@ -22,7 +23,7 @@ use Rattle.sorting.specs.Sorted.{distinct}
 use Rattle.text.specs.Text.{ascii, decimal, entryText, entries, listText}
 use Rattle.text.proofs.Laws.{decimal-20, list-length}
 use Rattle.display.specs.Display.{keysIn, idsIn, inContainer, line, linesOf, named, summary, slotsText}
-use Rattle.display.proofs.Texts.{line-length, named-length, whole-length, counts-length, at-most-three}
+use Rattle.display.proofs.Texts.{line-length, named-length, whole-length, counts-length}
 use Rattle.display.proofs.Runs.{above, enter-above}
 
 -- ---- numbers ascending, once each
@@ -251,6 +252,6 @@ whole-most keys ids used n d h k u e f =
       arith,
       whole-length (counts n d) slots,
       lines-most slots good,
-      summary-most slots good (counts n d) (all-weaker division word (counts n d) division-word f) (omega (arith, counts-length n d e, at-most-three n e)) (omega (arith, long)),
+      summary-most slots good (counts n d) (all-weaker division word (counts n d) division-word f) (omega (arith, counts-length n d e, few-axes n e)) (omega (arith, long)),
       long,
     )

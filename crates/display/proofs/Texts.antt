@@ -3,13 +3,12 @@
 use Prim.Native.Nat.{ℕ, _+_, _≤_, _<_}
 use native.Mathlib.Omega.{arith}
 use mathlib.Core.Path.{_≡_, sym, ap, _∙_}
-use mathlib.Core.Logic.{⊎-elim}
 use mathlib.Core.Bool.{true}
 use mathlib.Core.List.{List, [], _∷_, map}
 use lib.ListN.{length, getD, take, length-append, length-map}
 use lib.Seq.{length-take-le, getD-take, ext-getD}
 use Rattle.geometry.specs.Position.{dimension}
-use Rattle.geometry.proofs.Axes.{two-or-three}
+use Rattle.geometry.proofs.Axes.{few-axes}
 use Rattle.grid.specs.declared.Divisions.{Divisions}
 use Rattle.grid.specs.Divisions.{counts}
 use Rattle.table.specs.Rows.{Slot, slotsOf}
@@ -39,12 +38,8 @@ module _ (ids order : List ℕ) (n : ℕ) (inside : n ≤ length order) where
       getD-map (markId ids) (take n order) i (rw (length-take-le n order inside) h)
       ∙ ap (markId ids) (getD-take n order i 0 h)
 
--- the divisions are two or three
-pub at-most-three : (n : ℕ) → dimension n ≡ true → n ≤ 3
-at-most-three n d = ⊎-elim (λ e. omega arith) (λ e. omega arith) (two-or-three n d)
-
 pub counts-length : (n : ℕ) (d : Divisions) → dimension n ≡ true → length (counts n d) ≡ n
-counts-length n d e = length-take-le n (d .x ∷ d .y ∷ d .z ∷ []) (at-most-three n e)
+counts-length n d e = length-take-le n (d .x ∷ d .y ∷ d .z ∷ []) (few-axes n e .1)
 
 -- the summary's four lines, one after the other
 pub summary-length : (slots : List Slot) (divisions : List ℕ)

@@ -9,14 +9,14 @@ use mathlib.Core.List.{List}
 use lib.Dec.{eqb, leb, ltb}
 use lib.ListN.{length, getD}
 use lib.Ieee.{Float}
-use borrow.Author.Tests.{eqb-true, ne-eqb, not-true, not-false, leb-true, leb-false, le-leb, ltb-false, le-ltb}
+use borrow.Author.Tests.{eqb-true, eq-eqb, ne-eqb, not-true, not-false, leb-true, leb-false, le-leb, ltb-false, le-ltb}
 use Rattle.basics.proofs.Bools.{by-test, and-left, and-right, or-left, or-right}
 use Rattle.basics.specs.Lists.{zipWith}
 use Rattle.floats.specs.Rounded.{_⊖_, zeroF}
 use Rattle.floats.specs.Tests.{within}
 use Rattle.geometry.specs.declared.Position.{Position}
 use Rattle.geometry.specs.Position.{coords, positionOf, axisOf, dimension}
-use Rattle.geometry.proofs.Axes.{two-or-three, coords-of}
+use Rattle.geometry.proofs.Axes.{for-axes, coords-length, axis-entry, coords-of}
 use Rattle.grid.specs.Divisions.{counts}
 use Rattle.grid.specs.Containers.{pivots, centre}
 use Rattle.grid_search.specs.declared.GridSearch.{GridSearch}
@@ -86,20 +86,6 @@ module _ (P : Asked → Type 0) (p : ℕ) (a b : List Float) (v : Float) where
 pub three-axes : (n : ℕ) → not (eqb n 3) ≡ false → n ≡ 3
 three-axes n e = eqb-true n 3 (not-false (eqb n 3) e)
 
--- ---- a coordinate by its axis
-
-pub axis-entry : (n k : ℕ) (x : Position) → dimension n ≡ true → k < n → getD (coords n x) k zeroF ≡ axisOf k x
-axis-entry n k x d h = go k h (two-or-three n d)
-  where
-    go : (k : ℕ) → k < n → (n ≡ 2) ⊎ (n ≡ 3) → getD (coords n x) k zeroF ≡ axisOf k x
-    go zero h (inl e) = rw e
-    go zero h (inr e) = rw e
-    go (suc zero) h (inl e) = rw e
-    go (suc zero) h (inr e) = rw e
-    go (suc (suc k)) h (inl e) = absurd (omega arith)
-    go (suc (suc zero)) h (inr e) = rw e
-    go (suc (suc (suc k))) h (inr e) = absurd (omega arith)
-
 -- ---- a place made of a number and slices
 
 lengths : (n p : ℕ) (a b : List Float) (v : Float) → (p ≡ 0) ⊎ (p ≡ 2) → wrongLength n (askedOf p a b v) ≡ false → (length a ≡ n) × (length b ≡ n)
@@ -161,18 +147,12 @@ module _ (p : ℕ) (a b : List Float) (v : Float) where
 -- a place that holds positions has their right length in every dimension
 pub right-lengths : (n : ℕ) (on : Place) → dimension n ≡ true → wrongLength n (asked n on) ≡ false
 unfolding asked wrongLength
-right-lengths n on d = go on (two-or-three n d)
-  where
-    go : (on : Place) → (n ≡ 2) ⊎ (n ≡ 3) → wrongLength n (asked n on) ≡ false
-    go (place.Line a b) (inl e) = rw e
-    go (place.Line a b) (inr e) = rw e
-    go (place.Circle a r) (inl e) = rw e
-    go (place.Circle a r) (inr e) = rw e
-    go (place.Cylinder a b r) (inl e) = rw e
-    go (place.Cylinder a b r) (inr e) = rw e
-    go (place.PlaneXY z) h = refl
-    go (place.PlaneYZ x) h = refl
-    go (place.PlaneXZ y) h = refl
+right-lengths n (place.Line a b) d = rw (coords-length n a d, coords-length n b d, eq-eqb n n refl)
+right-lengths n (place.Circle a r) d = rw (coords-length n a d, eq-eqb n n refl)
+right-lengths n (place.Cylinder a b r) d = rw (coords-length n a d, coords-length n b d, eq-eqb n n refl)
+right-lengths n (place.PlaneXY z) d = refl
+right-lengths n (place.PlaneYZ x) d = refl
+right-lengths n (place.PlaneXZ y) d = refl
 
 -- ---- the tests of the call by number, as the code joins them
 
@@ -215,8 +195,7 @@ plane-lies n k v x w d fit h even =
 pub centre-coords : (s : GridSearch) (key : ℕ) (p : Position) → dimension (s .ndim) ≡ true
     → p ≡ positionOf (centre (s .«side_length») (coords (s .ndim) (s .xmin)) (pivots (counts (s .ndim) (s .ndiv)) key)) → coords (s .ndim) p ≡ centreOf s key
 unfolding centreOf centre pivots zipWith
-centre-coords s key p d e = coords-of (s .ndim) (centreOf s key) p d (long (s .ndim) (two-or-three (s .ndim) d)) e
+centre-coords s key p d e = coords-of (s .ndim) (centreOf s key) p d (for-axes long refl refl (s .ndim) d) e
   where
-    long : (n : ℕ) → (n ≡ 2) ⊎ (n ≡ 3) → length (centre (s .«side_length») (coords n (s .xmin)) (pivots (counts n (s .ndiv)) key)) ≡ n
-    long n (inl e) = rw e
-    long n (inr e) = rw e
+    long : ℕ → Type 0
+    long n = length (centre (s .«side_length») (coords n (s .xmin)) (pivots (counts n (s .ndiv)) key)) ≡ n

@@ -3,7 +3,6 @@
 use Prim.Native.Nat.{ℕ, _≤_}
 use native.Mathlib.Omega.{arith}
 use mathlib.Core.Path.{_≡_, sym}
-use mathlib.Core.Logic.{⊎-elim}
 use mathlib.Core.Bool.{true, false}
 use mathlib.Core.Option.{Option, none, some}
 use mathlib.Core.List.{List}
@@ -11,7 +10,6 @@ use lib.ListN.{length}
 use borrow.Author.Tests.{eq-eqb, ne-eqb}
 use Rattle.basics.specs.Refusals.{Answer, refused, success, fault}
 use Rattle.geometry.specs.Position.{dimension}
-use Rattle.geometry.proofs.Axes.{two-or-three}
 use Rattle.grid_search.specs.declared.GivenU64.the-variants as number
 use Rattle.grid_search.specs.declared.GivenF64.the-variants as float
 use Rattle.grid_search.specs.declared.GridSearch.{GridSearch}
@@ -20,9 +18,6 @@ use Rattle.grid_search.proofs.Remade.{made-good}
 use Rattle.records.specs.declared.Record.{Record}
 use Rattle.records.specs.Records.{recordAt}
 use Rattle.loading.specs.Loading.{placeOf, fileTests, unless, sheetOfRecords, sheetIn}
-
-pub at-most-three : (n : ℕ) → dimension n ≡ true → n ≤ 3
-at-most-three n d = ⊎-elim (λ e. omega arith) (λ e. omega arith) (two-or-three n d)
 
 module _ (bytes : List ℕ) where
   pub not-two : (length bytes ≡ 64 → ⊥) → refused 13 ≡ sheetOfRecords bytes

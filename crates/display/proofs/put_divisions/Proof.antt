@@ -6,7 +6,8 @@ use Rattle.grid.specs.Divisions.{counts}
 use Rattle.text.specs.Text.{ascii, listText}
 use Rattle.text.proofs.Laws.{put-both}
 use Rattle.display.specs.Display.{named}
-use Rattle.display.proofs.Texts.{named-length, at-most-three, counts-length}
+use Rattle.geometry.proofs.Axes.{few-axes}
+use Rattle.display.proofs.Texts.{named-length, counts-length}
 use borrow.Author.Needs.{needs}
 use Rattle.display.proofs.put_divisions.Statement.{statement}
 use Rattle.display.proofs.put_divisions.Tie as tie
@@ -18,7 +19,7 @@ put-text-requires : tie.Need-put-text-requires
 put-text-requires c κs = omega (arith, named-length (ascii "ndiv") (listText (counts (c .before .before .before .args .ndim) (c .before .before .before .args .ndiv))))
 
 array-share-prefix-divisions : tie.Need-array-share-prefix-divisions
-array-share-prefix-divisions c = at-most-three (c .before .before .before .before .before .before .before .args .ndim) (c .before .before .before .before .before .before .before .pre .0)
+array-share-prefix-divisions c = let s = c .before .before .before .before .before .before .before in few-axes (s .args .ndim) (s .pre .0) .1
 
 slice-aggregate-put-list : tie.Need-slice-aggregate-put-list
 slice-aggregate-put-list c = sym (counts-length (c .before .before .before .before .before .before .before .before .args .ndim) (c .before .before .before .before .before .before .before .before .args .ndiv) (c .before .before .before .before .before .before .before .before .pre .0))

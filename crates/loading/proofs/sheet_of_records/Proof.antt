@@ -6,7 +6,8 @@ use lib.Seq.{length-take-le}
 use borrow.Author.Needs.{needs}
 use borrow.Author.Tests.{not-true, not-false}
 use Rattle.geometry.specs.Position.{dimension}
-use Rattle.loading.proofs.Sheets.{at-most-three, not-two, no-dimension, from-records}
+use Rattle.geometry.proofs.Axes.{few-axes}
+use Rattle.loading.proofs.Sheets.{not-two, no-dimension, from-records}
 use Rattle.loading.proofs.sheet_of_records.Statement.{statement}
 use Rattle.loading.proofs.sheet_of_records.Tie as tie
 
@@ -36,16 +37,16 @@ returns-2 c =
     (sym (c .before .is-dimension .ensures) ∙ not-true _ (c .if2 .taken))
 
 array-share-prefix-xmin : tie.Need-array-share-prefix-xmin
-array-share-prefix-xmin c = at-most-three (c .before .before .before .record-at .result .id) (axes c)
+array-share-prefix-xmin c = few-axes (c .before .before .before .record-at .result .id) (axes c) .1
 
 slice-aggregate-new : tie.Need-slice-aggregate-new
-slice-aggregate-new c = sym (length-take-le _ _ (at-most-three (c .before .before .before .before .record-at .result .id) (axes (c .before))))
+slice-aggregate-new c = sym (length-take-le _ _ (few-axes (c .before .before .before .before .record-at .result .id) (axes (c .before)) .1))
 
 array-share-prefix-xmax : tie.Need-array-share-prefix-xmax
-array-share-prefix-xmax c = at-most-three (c .before .before .before .before .record-at .result .id) (axes (c .before))
+array-share-prefix-xmax c = few-axes (c .before .before .before .before .record-at .result .id) (axes (c .before)) .1
 
 slice-aggregate-new-2 : tie.Need-slice-aggregate-new-2
-slice-aggregate-new-2 c = sym (length-take-le _ _ (at-most-three (c .before .before .before .before .before .record-at .result .id) (axes (c .before .before))))
+slice-aggregate-new-2 c = sym (length-take-le _ _ (few-axes (c .before .before .before .before .before .record-at .result .id) (axes (c .before .before)) .1))
 
 new-requires : tie.Need-new-requires
 new-requires c κs = search needs

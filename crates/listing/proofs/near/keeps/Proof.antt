@@ -4,7 +4,7 @@ use mathlib.Core.Path.{_≡_}
 use lib.Dec.{leb}
 use borrow.Author.Tests.{leb-false}
 use borrow.Author.Needs.{needs}
-use Rattle.listing.proofs.Places.{axis-entry}
+use Rattle.geometry.proofs.Axes.{axis-entry}
 use Rattle.listing.specs.Place.{passes, unfitFilter}
 use Rattle.listing.proofs.near.keeps.Statement.{statement}
 use Rattle.listing.proofs.near.keeps.Tie as tie
