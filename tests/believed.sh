@@ -38,6 +38,9 @@ function import(line,    module, rest, n, i, list, name, shown, k) {
     if (line !~ /^Rattle·/)
         return
     sub(/^Rattle·/, "", line)
+    match(line, /^[a-z_0-9]+/)
+    if (!(substr(line, 1, RLENGTH) in needs))
+        return
     if (match(line, / as [^ {}]+$/) && line !~ /\{/) {
         name = substr(line, RSTART + 4)
         module = plain(substr(line, 1, RSTART - 1))

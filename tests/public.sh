@@ -19,7 +19,7 @@ listing search_on_plane_xy search_on_plane_yz search_on_plane_xz
 files sheet_of_file part_length part_of marks_answer said_of
 grid_cells new
 cell_search search
-mesh_view new count corner grid_cells search build
+mesh_view new grid_cells search build
 END
     # shellcheck disable=SC2046
     echo capi $(sed -n 's/^uint64_t \(gemlab_[a-z_]*\)(.*/\1/p' include/gemlab.h)

@@ -22,7 +22,7 @@ use Rattle.cell_sizes.specs.declared.Settings.{Settings}
 use Rattle.cell_sizes.specs.Large.{measure, isFiled}
 use Rattle.cell_rows.specs.Filing.{boxExceeds}
 use Rattle.grid_cells.specs.declared.GridCells.{GridCells}
-use Rattle.grid_cells.specs.Build.{IndexLists, listsTooLong, fileIndex, make, index, containersOf, lowCorner, highCorner, settingsOk, sizeTests, meshTests, settingTests, cellTests, divisionTests, frameTests, rowTests, laterTests, buildTests, settleBuild, build}
+use Rattle.grid_cells.specs.Build.{IndexLists, listsTooLong, fileIndex, make, index, containersOf, lowCorner, highCorner, settingsOk, sizeTests, givenTests, divisionTests, frameTests, rowTests, laterTests, buildTests, settleBuild, build}
 use Rattle.grid_cells.proofs.Ways.{divided}
 
 pub record Accepted (n : ℕ) (m : Mesh) (t : Settings) (l : IndexLists) : Type 0 where
@@ -41,7 +41,7 @@ pub record Accepted (n : ℕ) (m : Mesh) (t : Settings) (l : IndexLists) : Type 
   pub large-fit : length (make n (measure n m t) t .large) ≤ length (l .large)
 
 pub accepted : (n : ℕ) (m : Mesh) (t : Settings) (l : IndexLists) → fault (buildTests n m t l) ≡ none → Accepted n m t l
-unfolding buildTests sizeTests laterTests meshTests settingTests cellTests frameTests divisionTests rowTests make fileIndex index
+unfolding buildTests sizeTests laterTests givenTests frameTests divisionTests rowTests make fileIndex index
 accepted n m t l e = go (unrefused (buildTests n m t l) e)
   where
     go : Passed (buildTests n m t l) → Accepted n m t l

@@ -12,7 +12,7 @@ use lib.Dec.{lit≤}
 use lib.ListN.{length, getD}
 use lib.Ieee.{Float, nan, binary64, le, isNan, fits}
 use Rattle.basics.proofs.Bools.{by-test, both, and-left, and-both}
-use Rattle.basics.specs.Lists.{all, keep, zipWith, tab, foldFrom, foldAll}
+use Rattle.basics.specs.Lists.{all, keep, zipWith, tab, foldFrom}
 use Rattle.basics.proofs.Lists.{length-tab, all-at, all-tab}
 use Rattle.floats.specs.Rounded.{zeroF, pow2}
 use Rattle.floats.specs.Tests.{finite, minOf, maxOf}

@@ -52,16 +52,16 @@ module _ (g : Slot → Bool) where
       (λ e. by-test (same q p) (λ f. rw (e, f) k) (λ f. rw (e, f, h) k))
 
 -- ---- rows that are in order, and each of them good
-pub record Filed (g : Slot → Bool) (rows : List Slot) : Type 0 where
+pub record RowsGood (g : Slot → Bool) (rows : List Slot) : Type 0 where
   pub order : sorted rows ≡ true
   pub good : all g rows ≡ true
 
-pub none-filed : (g : Slot → Bool) → Filed g []
+pub none-filed : (g : Slot → Bool) → RowsGood g []
 unfolding sorted all
 none-filed g = record { order = refl; good = refl }
 
 module _ (g : Slot → Bool) (w : Containers) where
-  cell-filed : (c : ℕ) (xs : List (List Float)) (rows : List Slot) → Each (λ (x : List Float). g (slotted (cellKey w x) c) ≡ true) xs → Filed g rows → Filed g (fileCell w c xs rows)
+  cell-filed : (c : ℕ) (xs : List (List Float)) (rows : List Slot) → Each (λ (x : List Float). g (slotted (cellKey w x) c) ≡ true) xs → RowsGood g rows → RowsGood g (fileCell w c xs rows)
   unfolding fileCell
   cell-filed c [] rows h f = f
   cell-filed c (x ∷ xs) rows h f =
@@ -70,7 +70,7 @@ module _ (g : Slot → Bool) (w : Containers) where
 
   pub cells-filed : (p : Box → Bool) (c : ℕ) (bs : List Box) (rows : List Slot)
       → ((i : ℕ) → c ≤ i → i < c + length bs → Each (λ (b : Box). p b ≡ true → Each (λ (x : List Float). g (slotted (cellKey w x) i) ≡ true) (boxCorners b)) bs)
-      → Filed g rows → Filed g (fileCells w p c bs rows)
+      → RowsGood g rows → RowsGood g (fileCells w p c bs rows)
   unfolding fileCells
   cells-filed p c [] rows h f = f
   cells-filed p c (b ∷ bs) rows h f =

@@ -1,25 +1,22 @@
 -- The claims of specs/Claims.antt.
 -- Assumes nothing.
-use Prim.Native.Nat.{ℕ, _≤_, _<_}
+use Prim.Native.Nat.{ℕ, _<_}
 use native.Mathlib.Omega.{arith}
 use mathlib.Core.Path.{_≡_, refl, sym, ap, _∙_, subst}
 use mathlib.Core.Bool.{Bool, true, false, not, _&&_, _||_, and-true}
 use mathlib.Core.List.{List, [], _∷_, map}
-use mathlib.Core.Option.{Option, none, some}
+use mathlib.Core.Option.{none}
 use lib.Dec.{ltb, eqb}
 use lib.ListN.{length, length-map}
-use lib.Ieee.{Float, binary64, fits, lt, le}
-use borrow.Author.Tests.{not-false, eqb-true, eqb-false, ltb-false, le-leb, eq-eqb, lt-ltb}
-use Rattle.basics.proofs.Bools.{by-test, both, and-both, or-left, or-right}
-use Rattle.basics.specs.Lists.{all, any, keep, over}
-use Rattle.basics.specs.Refusals.{fault, Answer, refused, success}
-use Rattle.basics.proofs.Refusals.{Passed, unrefused}
-use Rattle.floats.specs.Rounded.{zeroF}
-use Rattle.geometry.specs.Position.{coords, dimension, coordinate}
-use Rattle.grid_search.specs.Sheet.{inOrder}
+use lib.Ieee.{Float, binary64, fits}
+use borrow.Author.Tests.{le-leb, eq-eqb, lt-ltb}
+use Rattle.basics.proofs.Bools.{by-test, both, and-both}
+use Rattle.basics.specs.Lists.{all, keep, over}
+use Rattle.basics.specs.Refusals.{fault}
+use Rattle.geometry.specs.Position.{coordinate}
 use Rattle.grid.specs.Divisions.{counts, division}
 use Rattle.grid.specs.Containers.{containers}
-use Rattle.mesh.specs.Mesh.{Mesh, Box, Whole, cellCount, meshTooLong, brokenMesh, least, greatest}
+use Rattle.mesh.specs.Mesh.{Mesh, Box, Whole, cellCount, meshTooLong, least, greatest}
 use Rattle.table.specs.Rows.{Slot}
 use Rattle.cell_sizes.specs.declared.Settings.{Settings}
 use Rattle.cell_sizes.specs.Large.{Measured, measure, boxes, isLarge, isFiled}
@@ -29,13 +26,14 @@ use Rattle.cell_rows.proofs.Over.{take-over, length-over}
 use Rattle.grid_cells.specs.declared.GridCells.{GridCells}
 use Rattle.grid_cells.specs.Build.{IndexLists, listsTooLong, FiledIndex, fileIndex, make, index, containersOf, lowCorner, highCorner, cellSide, sizeTests, settleBuild}
 use Rattle.sorting.specs.Ascent.{ascending}
-use Rattle.cell_index.specs.Index.{goodIndex, enoughEntries, goodSlot, goodRows, goodNumbers, soundIndex, indexTests, cellRows, largeCells}
+use Rattle.cell_index.specs.Index.{goodIndex, enoughEntries, goodRows, goodNumbers, soundIndex, indexTests, cellRows, largeCells}
+use Rattle.cell_index.proofs.Linked.{goodSlot}
 use Rattle.cell_search.specs.Search.{askedTests, cellSearchTests}
 use Rattle.cell_claims.specs.Claims.{inBinary64, BuiltIsSound, BuiltServes}
 use Rattle.cell_claims.proofs.Accepted.{Accepted, of-built}
 use Rattle.cell_claims.proofs.Boxes.{Each, Good, Point, Size, boxes-good, longest-size, least-point, greatest-point, each-map, each-keep}
 use Rattle.cell_claims.proofs.Frames.{Limits, limits, Sided, sided, Parts, framed, index-good}
-use Rattle.cell_claims.proofs.Filed.{Filed, any-none, none-filed, cells-filed, corner-keys, numbered-ascending, numbered-below, read-back}
+use Rattle.cell_claims.proofs.Filed.{RowsGood, any-none, none-filed, cells-filed, corner-keys, numbered-ascending, numbered-below, read-back}
 
 -- ---- what they give
 both-all : (p q : Float → Bool) (xs : List Float) → all p xs ≡ true → all q xs ≡ true → all (λ (x : Float). p x && q x) xs ≡ true
@@ -116,8 +114,8 @@ module _ (n : ℕ) (m : Mesh) (t : Settings) (l : IndexLists) (a : Accepted n m 
   abbrev good-slot : Slot → Bool
   good-slot = goodSlot (containers (counts (k .grid .ndim) (k .grid .ndiv))) (cellCount n m)
 
-  filed : Filed good-slot (k .rows)
-  unfolding make fileIndex index lowCorner highCorner goodSlot
+  filed : RowsGood good-slot (k .rows)
+  unfolding make fileIndex index lowCorner highCorner
   filed =
       let g = containersOf (k .grid) in
       let r = framed (k .grid) n (t .«border_tol») (cellSide w t) low high (a .axes) parts (ends .0) (ends .1) in

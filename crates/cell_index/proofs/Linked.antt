@@ -12,7 +12,7 @@ use Rattle.basics.specs.Lists.{all, tab}
 use Rattle.basics.proofs.Lists.{length-tab, drop-tab, tab-take}
 use Rattle.table.specs.Rows.{Slot, before, chain, slotsOf, sorted}
 use Rattle.sorting.specs.Ascent.{ascending}
-use Rattle.cell_index.specs.Index.{goodSlot, goodRows, goodNumbers}
+use Rattle.cell_index.specs.Index.{goodRows, goodNumbers}
 
 -- ---- with a flag that holds what was passed
 
@@ -50,6 +50,9 @@ module _ {A : Type 0} (p : A → Bool) (r : A → A → Bool) where
       turned true true c d = refl
 
 -- ---- rows
+
+abbrev pub goodSlot : ℕ → ℕ → Slot → Bool
+goodSlot count ncell p = ltb (p .key) count && ltb (p .id) ncell
 
 pub rows-linked : (count ncell : ℕ) (rows : List Slot) → goodRows count ncell rows ≡ linked (goodSlot count ncell) before rows
 unfolding goodRows sorted chain

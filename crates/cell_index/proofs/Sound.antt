@@ -27,8 +27,9 @@ use Rattle.grid_cells.specs.declared.GridCells.{GridCells}
 use Rattle.grid_cells.specs.Build.{IndexLists, sizeTests}
 use Rattle.grid_cells.proofs.Ways.{code-stop, code-past}
 use Rattle.grid_cells.proofs.Early.{sizes-numbered}
-use Rattle.cell_index.specs.Index.{cellRows, largeCells, cornerLimit, ordered, goodIndex, enoughEntries, goodSlot, goodRows, goodNumbers, soundIndex, indexTests}
+use Rattle.cell_index.specs.Index.{cellRows, largeCells, cornerLimit, ordered, goodIndex, enoughEntries, goodRows, goodNumbers, soundIndex, indexTests}
 use Rattle.cell_index.specs.Steps.{Usable}
+use Rattle.cell_index.proofs.Linked.{goodSlot}
 
 -- ordered on every axis, by the test along each
 pub ordered-tests : (n : ℕ) (los his : List Float) → ordered (take n los) (take n his) ≡ all (λ (b : Bool). b) (take n (zipWith le los his))
@@ -92,7 +93,7 @@ module _ (g : GridCells) (n : ℕ) (l : IndexLists) (e : soundIndex g n l ≡ tr
   sound-order = rows-good .1
 
   pub cell-below : (i : ℕ) → i < g .used → getD (l .cells) i 0 < n
-  unfolding cellRows slotsOf goodSlot
+  unfolding cellRows slotsOf
   cell-below i h =
       let f = slotAt (l .keys) (l .cells) in
       let slot : goodSlot count n (f i) ≡ true = ap (goodSlot count n) (sym (getD-tab (g .used) f i (f 0) h)) ∙ all-at (goodSlot count n) (tab (g .used) f) i (f 0) (rw length-tab h) (rows-good .0) in

@@ -55,12 +55,9 @@ unfoldable pub enoughEntries : GridCells → IndexLists → Bool
 enoughEntries g l = eqb (length (l .cells)) (length (l .keys)) && (leb (g .used) (length (l .keys)) && leb (g .large) (length (l .large)))
 
 -- rows of so many containers and cells: each by itself, and in strict order
-unfoldable pub goodSlot : ℕ → ℕ → Slot → Bool
-goodSlot count ncell p = ltb (p .key) count && ltb (p .id) ncell
-
 unfoldable pub goodRows : ℕ → ℕ → List Slot → Bool
-unfolding all goodSlot sorted
-goodRows count ncell ps = all (goodSlot count ncell) ps && sorted ps
+unfolding all sorted
+goodRows count ncell ps = all (λ (p : Slot). ltb (p .key) count && ltb (p .id) ncell) ps && sorted ps
 
 -- numbers of so many cells, strictly ascending
 unfoldable pub goodNumbers : ℕ → List ℕ → Bool

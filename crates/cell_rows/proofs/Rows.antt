@@ -15,9 +15,9 @@ use Rattle.basics.proofs.Bools.{which, or-left, or-right, by-test, both, and-le
 use Rattle.basics.specs.Lists.{all, has, enter}
 use Rattle.table.specs.Rows.{Slot, slotted, before, same}
 use Rattle.table.proofs.Order.{Lex, before-lex, before-total, same-eq}
-use Rattle.sorting.specs.Sorted.{sortedOf, count, Ascending}
-use Rattle.sorting.proofs.Counts.{hit, count-cons, count-append, hit-same}
-use Rattle.sorting.proofs.Orders.{length-sorted}
+use Rattle.sorting.specs.Sorted.{sortedOf}
+use Rattle.sorting.proofs.Counts.{count, hit, count-cons, count-append, hit-same}
+use Rattle.sorting.proofs.Orders.{ListSorted, length-sorted}
 use Rattle.mesh.specs.Mesh.{Box}
 use Rattle.cell_rows.specs.declared.Containers.{Containers}
 use Rattle.cell_rows.specs.Filing.{cellKey, boxCorners, enterSlot, fileCell, fileCells}
@@ -107,7 +107,7 @@ count-pack c k (j ∷ js) = go (count-pack c k js) (which (eqb j k))
     go ih (inr f) = omega (arith, ih, count-cons k j js, count-cons (pack c k) (pack c j) (map (pack c) js), hit-other k j (eqb-false j k f))
 
 -- keys that come more than once make no difference
-join-entered : (c k : ℕ) (seen l : List ℕ) → Ascending l → enter (pack c k) (entered (map (pack c) seen) l) ≡ entered (map (pack c) (joinOnce k seen)) l
+join-entered : (c k : ℕ) (seen l : List ℕ) → ListSorted l → enter (pack c k) (entered (map (pack c) seen) l) ≡ entered (map (pack c) (joinOnce k seen)) l
 unfolding joinOnce entered
 join-entered c k seen l up =
     by-test (has k seen)
@@ -117,7 +117,7 @@ join-entered c k seen l up =
     (entered-has (pack c k) (map (pack c) seen) l up (omega (arith, count-has k seen e, count-pack c k seen)))))
     (λ e. rw (e, map-append (pack c) seen (k ∷ []), entered-append (map (pack c) seen) (pack c k ∷ []) l))
 
-once-entered : (c : ℕ) (ks seen l : List ℕ) → Ascending l → entered (map (pack c) ks) (entered (map (pack c) seen) l) ≡ entered (map (pack c) (once seen ks)) l
+once-entered : (c : ℕ) (ks seen l : List ℕ) → ListSorted l → entered (map (pack c) ks) (entered (map (pack c) seen) l) ≡ entered (map (pack c) (once seen ks)) l
 unfolding once entered
 once-entered c [] seen l up = refl
 once-entered c (k ∷ ks) seen l up = ap (entered (map (pack c) ks)) (join-entered c k seen l up) ∙ once-entered c ks (joinOnce k seen) l up
@@ -196,7 +196,7 @@ module _ (g : Containers) (p : Box → Bool) where
       ))
 
   -- one cell, filed or not
-  packed-cell : (c : ℕ) (b : Box) (rows : List Slot) → c < 65536 → all small rows ≡ true → Ascending (map packed rows)
+  packed-cell : (c : ℕ) (b : Box) (rows : List Slot) → c < 65536 → all small rows ≡ true → ListSorted (map packed rows)
       → map packed (cond (p b) (fileCell g c (boxCorners b) rows) rows) ≡ entered (map (pack c) (filedKeys g p b)) (map packed rows)
   unfolding filedKeys boxKeys entered
   packed-cell c b rows h s up =
@@ -205,13 +205,13 @@ module _ (g : Containers) (p : Box → Bool) where
   small-cell : (c : ℕ) (b : Box) (rows : List Slot) → c < 65536 → all small rows ≡ true → all small (cond (p b) (fileCell g c (boxCorners b) rows) rows) ≡ true
   small-cell c b rows h s = by-test (p b) (λ e. rw e (small-file g c (boxCorners b) rows h s)) (λ e. rw e s)
 
-  packed-files : (c : ℕ) (bs : List Box) (rows : List Slot) → c + length bs ≤ 65536 → all small rows ≡ true → Ascending (map packed rows)
+  packed-files : (c : ℕ) (bs : List Box) (rows : List Slot) → c + length bs ≤ 65536 → all small rows ≡ true → ListSorted (map packed rows)
       → map packed (fileCells g p c bs rows) ≡ entered (packedRows g p c bs) (map packed rows)
   unfolding fileCells packedRows entered
   packed-files c [] rows h s up = refl
   packed-files c (b ∷ bs) rows h s up =
       let e = packed-cell c b rows (omega arith) s up in
-      let up′ : Ascending (map packed (cond (p b) (fileCell g c (boxCorners b) rows) rows)) = rw e (ascending-entered (map (pack c) (filedKeys g p b)) (map packed rows) up) in
+      let up′ : ListSorted (map packed (cond (p b) (fileCell g c (boxCorners b) rows) rows)) = rw e (ascending-entered (map (pack c) (filedKeys g p b)) (map packed rows) up) in
       packed-files (suc c) bs (cond (p b) (fileCell g c (boxCorners b) rows) rows) (omega arith) (small-cell c b rows (omega arith) s) up′
       ∙ ap (entered (packedRows g p (suc c) bs)) e
       ∙ sym (entered-append (map (pack c) (filedKeys g p b)) (packedRows g p (suc c) bs) (map packed rows))

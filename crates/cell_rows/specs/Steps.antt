@@ -13,7 +13,7 @@ use Rattle.geometry.specs.Position.{dimension}
 use Rattle.grid.specs.declared.Located.{Located}
 use Rattle.grid.specs.declared.Located.the-variants.{Key, Exceeds}
 use Rattle.grid.specs.Divisions.{counts, division}
-use Rattle.mesh.specs.Mesh.{Box}
+use Rattle.mesh.specs.Mesh.{Mesh, Box, cellCount, Whole}
 use Rattle.table.specs.Rows.{Slot}
 use Rattle.cell_rows.specs.declared.Containers.{Containers}
 use Rattle.cell_rows.specs.declared.Keys.{Keys}
@@ -56,6 +56,13 @@ packedRows g p c (b ∷ bs) = map (pack c) (filedKeys g p b) ++ packedRows g p (
 pub record Keyed (g : Containers) : Type 0 where
   pub axes : dimension (g .ndim) ≡ true
   pub divisions : all division (counts (g .ndim) (g .ndiv)) ≡ true
+
+-- with them so many cells of a whole mesh can be filed
+pub record Fileable (g : Containers) (m : Mesh) (ncell : ℕ) : Type 0 where
+  pub keyed : Keyed g
+  pub whole : Whole (g .ndim) m
+  pub count : ncell ≡ cellCount (g .ndim) m
+  pub few : ncell ≤ 65536
 
 -- the container of a position: that a ratio exceeds its divisions, or its key
 unfoldable pub cellContainer : Containers → List Float → Located

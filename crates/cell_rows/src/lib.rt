@@ -2,7 +2,7 @@
 // first, then written into the lent keys as one number each, cell by cell, sorted there, and taken apart.
 ghost use Prim.Native.Nat.{ℕ, _+_, _*_, _%_, _≤_, _<_};
 ghost use mathlib.Core.Path.{_≡_};
-ghost use mathlib.Core.Bool.{true, false, cond};
+ghost use mathlib.Core.Bool.{true, cond};
 ghost use mathlib.Core.List.{map, []};
 ghost use lib.Dec.{eqb, ltb};
 ghost use lib.ListN.{length, take};
@@ -12,7 +12,7 @@ ghost use Rattle.geometry.specs.Position.{coords as axes, dimension};
 ghost use Rattle.mesh.specs.Mesh.{meshOf, cellCount, Whole, boxed};
 ghost use Rattle.cell_sizes.specs.Large.{boxes, isLarge, isFiled, numbered, largeOf};
 ghost use Rattle.cell_rows.specs.Filing.{boxCorner, fileCells};
-ghost use Rattle.cell_rows.specs.Steps.{Keyed, cellContainer, Joined, Holds, boxKeysOr, filedKeysOr, rowsIn, rowCountOr, pack, packedKey, packedCell, packedRows, Fitting, Written, Filed, Noted};
+ghost use Rattle.cell_rows.specs.Steps.{Keyed, Fileable, cellContainer, Joined, Holds, boxKeysOr, filedKeysOr, rowsIn, rowCountOr, pack, packedKey, packedCell, packedRows, Fitting, Written, Filed, Noted};
 use cell_sizes::Sizes;
 use geometry::Position;
 use grid::Divisions;
@@ -110,7 +110,7 @@ pub fn count_rows(
     corners: &[u32],
     ncell: usize,
 ) -> Keys
-    requires { ⌜ Keyed grid ⌝ ∗ ⌜ Whole (grid .ndim) (meshOf (now coords) (now corners)) ⌝ ∗ ⌜ ncell ≡ cellCount (grid .ndim) (meshOf (now coords) (now corners)) ⌝ ∗ ⌜ ncell ≤ 65536 ⌝ }
+    requires { ⌜ Fileable grid (meshOf (now coords) (now corners)) ncell ⌝ }
     ensures { λ r. ⌜ rowsIn r ≡ rowCountOr grid (isFiled (sizes .apart) (sizes .limit)) (boxes (grid .ndim) (meshOf (now (coords .entry)) (now (corners .entry)))) ⌝ }
 {
     let ndim = grid.ndim;
@@ -157,7 +157,7 @@ fn pack_rows(
     ncell: usize,
     rows: &mut [u64],
 ) -> usize
-    requires { ⌜ Keyed grid ⌝ ∗ ⌜ Whole (grid .ndim) (meshOf (now coords) (now corners)) ⌝ ∗ ⌜ ncell ≡ cellCount (grid .ndim) (meshOf (now coords) (now corners)) ⌝ ∗ ⌜ ncell ≤ 65536 ⌝ ∗ ⌜ Fitting grid (isFiled (sizes .apart) (sizes .limit)) (boxes (grid .ndim) (meshOf (now coords) (now corners))) (now rows) ⌝ }
+    requires { ⌜ Fileable grid (meshOf (now coords) (now corners)) ncell ⌝ ∗ ⌜ Fitting grid (isFiled (sizes .apart) (sizes .limit)) (boxes (grid .ndim) (meshOf (now coords) (now corners))) (now rows) ⌝ }
     ensures { λ r. ⌜ Written (packedRows grid (isFiled (sizes .apart) (sizes .limit)) 0 (boxes (grid .ndim) (meshOf (now (coords .entry)) (now (corners .entry))))) (now (rows .entry)) r (now (rows .exit)) ⌝ }
 {
     let ndim = grid.ndim;
@@ -199,7 +199,7 @@ pub fn file_cells(
     keys: &mut [u64],
     cells: &mut [u64],
 )
-    requires { ⌜ Keyed grid ⌝ ∗ ⌜ Whole (grid .ndim) (meshOf (now coords) (now corners)) ⌝ ∗ ⌜ ncell ≡ cellCount (grid .ndim) (meshOf (now coords) (now corners)) ⌝ ∗ ⌜ ncell ≤ 65536 ⌝ ∗ ⌜ (length (now cells) ≡ length (now keys)) × Fitting grid (isFiled (sizes .apart) (sizes .limit)) (boxes (grid .ndim) (meshOf (now coords) (now corners))) (now keys) ⌝ }
+    requires { ⌜ Fileable grid (meshOf (now coords) (now corners)) ncell ⌝ ∗ ⌜ (length (now cells) ≡ length (now keys)) × Fitting grid (isFiled (sizes .apart) (sizes .limit)) (boxes (grid .ndim) (meshOf (now coords) (now corners))) (now keys) ⌝ }
     ensures { λ _. ⌜ Filed (fileCells grid (isFiled (sizes .apart) (sizes .limit)) 0 (boxes (grid .ndim) (meshOf (now (coords .entry)) (now (corners .entry)))) []) (now (keys .entry)) (now (cells .entry)) (now (keys .exit)) (now (cells .exit)) ⌝ }
 {
     let n = pack_rows(grid, sizes, coords, corners, ncell, keys);

@@ -1,30 +1,26 @@
 -- What a search answers: a law for each way out of the code.
 -- Assumes nothing.
 use Prim.Native.Nat.{ℕ, _<_}
-use native.Mathlib.Omega.{arith}
-use mathlib.Core.Path.{_≡_, refl, sym, ap, _∙_}
-use mathlib.Core.Bool.{Bool, true, false, _&&_}
+use mathlib.Core.Path.{_≡_, sym, ap, _∙_}
+use mathlib.Core.Bool.{false}
 use mathlib.Core.Option.{Option, none, some}
-use mathlib.Core.List.{List, _++_}
+use mathlib.Core.List.{List}
 use lib.Dec.{eqb}
 use lib.ListN.{length}
 use lib.Ieee.{Float}
 use borrow.Author.Tests.{ltb-true, eqb-true, not-false}
-use Rattle.basics.specs.Lists.{all}
 use Rattle.basics.specs.Refusals.{fault, code, refused, success, answer}
 use Rattle.basics.proofs.Refusals.{Passed, unrefused, fault-stop, fault-right, code-some}
 use Rattle.geometry.specs.declared.Position.{Position}
-use Rattle.geometry.specs.Position.{coords, positionOf, dimension, coordinate}
+use Rattle.geometry.specs.Position.{coords, positionOf}
 use Rattle.geometry.proofs.Axes.{coords-of}
 use Rattle.mesh.specs.Mesh.{Mesh}
 use Rattle.cell_rows.specs.Filing.{cellKey, cellExceeds}
-use Rattle.cell_rows.specs.Steps.{Keyed}
 use Rattle.cell_rows.proofs.Corners.{key-small}
 use Rattle.grid_cells.specs.declared.GridCells.{GridCells}
 use Rattle.grid_cells.specs.Build.{containersOf, IndexLists}
 use Rattle.grid_cells.proofs.Ways.{answered-by, refused-by}
 use Rattle.cell_index.specs.Index.{indexTests}
-use Rattle.cell_index.specs.Steps.{Usable}
 use Rattle.cell_index.proofs.Sound.{index-passed, usable}
 use Rattle.cell_search.specs.declared.FoundCell.{FoundCell}
 use Rattle.cell_search.specs.declared.FoundCell.the-variants.{Refused}

@@ -5,7 +5,7 @@ use native.Mathlib.Numerals.{add-one}
 use native.Mathlib.Omega.{arith}
 use mathlib.Core.Path.{_≡_, sym, ap, _∙_}
 use mathlib.Core.Bool.{Bool, true, false, not, _&&_, _||_, cond}
-use mathlib.Core.Option.{Option, none, some}
+use mathlib.Core.Option.{none, some}
 use mathlib.Core.List.{List}
 use lib.ListN.{length, getD, take, drop, drop-of-length-le}
 use lib.Seq.{slice, slice-cons, length-take-le}
@@ -31,11 +31,11 @@ unfoldable pub outsideFrom : ℕ → BoundingBox → Position → ℕ → Bool
 outsideFrom n b x i = outside (drop i (coords n (b .low))) (drop i (coords n (b .high))) (drop i (coords n x))
 
 -- no axis before i fails
-pub record Passed (n : ℕ) (b : BoundingBox) (x : Position) (i : ℕ) : Type 0 where
+pub record AxesPassed (n : ℕ) (b : BoundingBox) (x : Position) (i : ℕ) : Type 0 where
   pub few : i ≤ n
   pub walk : outsideFrom n b x 0 ≡ outsideFrom n b x i
 
-module _ {n : ℕ} {b : BoundingBox} {x : Position} {i : ℕ} (w : Passed n b x i) (d : dimension n ≡ true) where
+module _ {n : ℕ} {b : BoundingBox} {x : Position} {i : ℕ} (w : AxesPassed n b x i) (d : dimension n ≡ true) where
   module _ (k : i < n) {r : Bool} (t : r ≡ (lt (axisOf i x) (axisOf i (b .low)) || lt (axisOf i (b .high)) (axisOf i x))) where
     along : outsideFrom n b x i ≡ (r || outsideFrom n b x (i + 1))
     unfolding outsideFrom outside
@@ -44,7 +44,7 @@ module _ {n : ℕ} {b : BoundingBox} {x : Position} {i : ℕ} (w : Passed n b x 
     pub axis-fails : r ≡ true → outsideFrom n b x 0 ≡ true
     axis-fails e = w .walk ∙ along ∙ rw e
 
-    pub axis-passes : r ≡ false → Passed n b x (i + 1)
+    pub axis-passes : r ≡ false → AxesPassed n b x (i + 1)
     axis-passes e = record { few = omega arith; walk = w .walk ∙ along ∙ rw e }
 
   pub axes-end : n ≤ i → outsideFrom n b x 0 ≡ false

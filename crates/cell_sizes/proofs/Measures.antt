@@ -11,7 +11,7 @@ use lib.ListN.{length, drop}
 use lib.Ieee.{Float, le}
 use borrow.Author.Tests.{eqb-true, eqb-false}
 use Rattle.basics.proofs.Bools.{by-test}
-use Rattle.basics.specs.Lists.{keep, zipWith, foldFrom, foldAll}
+use Rattle.basics.specs.Lists.{keep, zipWith, foldFrom}
 use Rattle.floats.specs.Rounded.{_⊗_, _⊘_, ofNat, zeroF}
 use Rattle.floats.specs.Tests.{minOf, maxOf}
 use Rattle.geometry.specs.Position.{coords}
@@ -24,12 +24,6 @@ use Rattle.cell_sizes.specs.declared.Census.{Census}
 use Rattle.cell_sizes.specs.Large.{boxes, longestOf, isLarge, numbered, largeOf, measure}
 use Rattle.cell_sizes.specs.Steps.{Widened, Around, counted, Counted, Sized}
 use Rattle.cell_sizes.proofs.Boxes.{length-boxes, boxes-next, boxes-end}
-
-lows : List Box → List (List Float)
-lows bs = map (λ (b : Box). b .low) bs
-
-highs : List Box → List (List Float)
-highs bs = map (λ (b : Box). b .high) bs
 
 -- ---- the extent
 

@@ -16,7 +16,7 @@ use Rattle.cell_sizes.specs.declared.Settings.{Settings}
 use Rattle.cell_sizes.specs.declared.Extent.{Extent}
 use Rattle.cell_sizes.specs.declared.Census.{Census}
 use Rattle.cell_sizes.specs.declared.Sizes.{Sizes}
-use Rattle.cell_sizes.specs.Large.{boxes, longestOf, isLarge, numbered, Measured, measure}
+use Rattle.cell_sizes.specs.Large.{boxes, longestOf, isLarge, numbered, measure}
 
 -- the extent with one box more
 pub record Widened (n : ℕ) (all : Extent) (b : BoundingBox) (r : Extent) : Type 0 where

@@ -1,5 +1,5 @@
 // What the cells of a mesh measure: the box around them all, which of them are large, and the largest length of those that are filed.
-ghost use Prim.Native.Nat.{ℕ, _≤_, _<_};
+ghost use Prim.Native.Nat.{_≤_, _<_};
 ghost use mathlib.Core.Path.{_≡_};
 ghost use mathlib.Core.Bool.{true};
 ghost use Rattle.floats.specs.Rounded.{_⊘_, ofNat};

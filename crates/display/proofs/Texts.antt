@@ -14,7 +14,7 @@ use Rattle.grid.specs.declared.Divisions.{Divisions}
 use Rattle.grid.specs.Divisions.{counts}
 use Rattle.table.specs.Rows.{Slot, slotsOf}
 use Rattle.sorting.specs.Sorted.{distinct}
-use Rattle.sorting.specs.Posts.{within, Selected}
+use Rattle.sorting.specs.Posts.{markId, Selected}
 use Rattle.sorting.proofs.Mixes.{getD-map}
 use Rattle.text.specs.Text.{ascii, decimal, listText}
 use Rattle.display.specs.Display.{keysIn, idsIn, line, linesOf, named, summary, slotsText}
@@ -31,13 +31,13 @@ named-length name text = simp length-append (omega arith)
 
 -- the numbers that the first n of a list of indices name
 module _ (ids order : List ℕ) (n : ℕ) (inside : n ≤ length order) where
-  pub names-length : length (map (within ids) (take n order)) ≡ n
-  names-length = length-map (take n order) (within ids) ∙ length-take-le n order inside
+  pub names-length : length (map (markId ids) (take n order)) ≡ n
+  names-length = length-map (take n order) (markId ids) ∙ length-take-le n order inside
 
-  pub names-at : (i : ℕ) → i < n → getD (map (within ids) (take n order)) i 0 ≡ within ids (getD order i 0)
+  pub names-at : (i : ℕ) → i < n → getD (map (markId ids) (take n order)) i 0 ≡ markId ids (getD order i 0)
   names-at i h =
-      getD-map (within ids) (take n order) i (rw (length-take-le n order inside) h)
-      ∙ ap (within ids) (getD-take n order i 0 h)
+      getD-map (markId ids) (take n order) i (rw (length-take-le n order inside) h)
+      ∙ ap (markId ids) (getD-take n order i 0 h)
 
 -- the divisions are two or three
 pub at-most-three : (n : ℕ) → dimension n ≡ true → n ≤ 3
@@ -62,7 +62,7 @@ whole-length divisions slots = length-append (linesOf slots (keysIn slots)) (sum
 -- ---- the ids picked
 
 module _ (keys ids order : List ℕ) (used n : ℕ) (inside : used ≤ length ids) where
-  pub picked-ids : Picked ids used order n → map (within ids) (take n order) ≡ idsIn (slotsOf keys ids used)
+  pub picked-ids : Picked ids used order n → map (markId ids) (take n order) ≡ idsIn (slotsOf keys ids used)
   unfolding idsIn
   picked-ids p = p .by-id ∙ ap distinct (sym (slots-ids keys ids used inside))
 
@@ -70,21 +70,21 @@ module _ (keys ids order : List ℕ) (used n : ℕ) (inside : used ≤ length id
   unfolding idsIn
   picked-count p = p .count ∙ ap (λ (l : List ℕ). length (distinct l)) (sym (slots-ids keys ids used inside))
 
-numbered-ids : (ids order : List ℕ) (n : ℕ) → n ≤ length order → n ≤ length ids → Numbered n order → map (within ids) (take n order) ≡ take n ids
+numbered-ids : (ids order : List ℕ) (n : ℕ) → n ≤ length order → n ≤ length ids → Numbered n order → map (markId ids) (take n order) ≡ take n ids
 numbered-ids ids order n h k e =
     let long : length (take n ids) ≡ n = length-take-le n ids k in
-    ext-getD 0 (map (within ids) (take n order)) (take n ids) (names-length ids order n h ∙ sym long)
+    ext-getD 0 (map (markId ids) (take n order)) (take n ids) (names-length ids order n h ∙ sym long)
     λ i l.
     let short : i < n = rw (names-length ids order n h) at l in
-    names-at ids order n h i short ∙ ap (within ids) (e i short) ∙ sym (getD-take n ids i 0 short)
+    names-at ids order n h i short ∙ ap (markId ids) (e i short) ∙ sym (getD-take n ids i 0 short)
 
 pub picked : {ids order order′ : List ℕ} {used m : ℕ} → used ≤ length order → used ≤ length ids → length order′ ≡ length order
     → Numbered used order → Selected ids used order m order′ → Picked ids used order′ m
 picked {ids} {order} {order′} {used} {m} h k same e s =
-    let all : map (within ids) (take used order) ≡ take used ids = numbered-ids ids order used h k e in
+    let all : map (markId ids) (take used order) ≡ take used ids = numbered-ids ids order used h k e in
     record {
       by-id = s .by-key ∙ ap distinct all;
       count = s .count ∙ ap (λ (l : List ℕ). length (distinct l)) all;
       inside = omega (arith, s .upto);
-      below = s .below;
+      below = s .indices;
     }

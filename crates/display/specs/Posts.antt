@@ -6,7 +6,7 @@ use lib.Dec.{ltb}
 use lib.ListN.{length, getD, take}
 use Rattle.basics.specs.Refusals.{refuse, fault}
 use Rattle.basics.specs.Filled.{Filled, fill}
-use Rattle.sorting.specs.Posts.{within, Below}
+use Rattle.sorting.specs.Posts.{markId, Indices}
 use Rattle.sorting.specs.Sorted.{distinct}
 
 -- the rows from i up to e are those of one container, and of the rows before `used` no more follow
@@ -18,10 +18,10 @@ pub record Run (keys : List ℕ) (i used e : ℕ) : Type 0 where
 
 -- the first n of order name the ids of the used rows, ascending, once each
 pub record Picked (ids : List ℕ) (used : ℕ) (order : List ℕ) (n : ℕ) : Type 0 where
-  pub by-id : map (within ids) (take n order) ≡ distinct (take used ids)
+  pub by-id : map (markId ids) (take n order) ≡ distinct (take used ids)
   pub count : n ≡ length (distinct (take used ids))
   pub inside : n ≤ length order
-  pub below : Below (length ids) n order
+  pub below : Indices (length ids) n order
 
 -- the first n entries are 0, 1, .., n - 1
 abbrev pub Numbered : ℕ → List ℕ → Type 0

@@ -10,7 +10,7 @@ ghost use Rattle.grid.specs.Divisions.{counts, division};
 ghost use Rattle.table.specs.Library.{library};
 ghost use Rattle.table.specs.Rows.{slotsOf};
 ghost use Rattle.table.specs.Posts.{Ordered};
-ghost use Rattle.sorting.specs.Posts.{within as entries, Below};
+ghost use Rattle.sorting.specs.Posts.{markId as entries, Indices};
 ghost use Rattle.text.specs.Text.{ascii, decimal, listText, Put};
 ghost use Rattle.display.specs.Display.{keysIn, line, linesOf, named, summary, slotsText, showing, Shows};
 ghost use Rattle.display.specs.Posts.{Run, Picked, Numbered, fitted};
@@ -90,7 +90,7 @@ fn id_at(ids: &[u64], j: u16) -> u64
 
 // The ids that the first n of order name, as a list.
 fn put_ids(buffer: &mut [u8], at: usize, ids: &[u64], order: &[u16], n: usize) -> usize
-    requires { ⌜ n ≤ length (now order) ⌝ ∗ ⌜ Below (length (now ids)) n (now order) ⌝ }
+    requires { ⌜ n ≤ length (now order) ⌝ ∗ ⌜ Indices (length (now ids)) n (now order) ⌝ }
     requires { ⌜ at + length (listText (map (entries (now ids)) (take n (now order)))) < 2 ^ 64 ⌝ }
     ensures { λ r. ⌜ Put (listText (map (entries (now (ids .entry))) (take n (now (order .entry))))) (now (buffer .entry)) at (now (buffer .exit)) r ⌝ }
 {
@@ -116,7 +116,7 @@ fn put_number(buffer: &mut [u8], at: usize, name: &[u8], n: u64) -> usize
 
 // The line of all ids.
 fn put_ids_line(buffer: &mut [u8], at: usize, ids: &[u64], order: &[u16], n: usize) -> usize
-    requires { ⌜ n ≤ length (now order) ⌝ ∗ ⌜ Below (length (now ids)) n (now order) ⌝ }
+    requires { ⌜ n ≤ length (now order) ⌝ ∗ ⌜ Indices (length (now ids)) n (now order) ⌝ }
     requires { ⌜ at + length (named (ascii "ids") (listText (map (entries (now ids)) (take n (now order))))) < 2 ^ 64 ⌝ }
     ensures { λ r. ⌜ Put (named (ascii "ids") (listText (map (entries (now (ids .entry))) (take n (now (order .entry)))))) (now (buffer .entry)) at (now (buffer .exit)) r ⌝ }
 {

@@ -12,12 +12,12 @@ use lib.Ieee.{Float}
 use borrow.Author.Tests.{ltb-false, eqb-true, eqb-false, not-false}
 use Rattle.basics.proofs.Bools.{by-test, or-left, or-right}
 use Rattle.basics.specs.Lists.{all, any, over}
-use Rattle.basics.specs.Refusals.{Test, fault, code, refused, success, answer}
+use Rattle.basics.specs.Refusals.{Test, fault, code, success, answer}
 use Rattle.basics.proofs.Refusals.{Passed, unrefused, fault-stop, fault-right, code-some, code-none}
 use Rattle.geometry.specs.Position.{dimension}
 use Rattle.grid.specs.Divisions.{counts, division}
 use Rattle.grid_search.specs.Sheet.{inOrder}
-use Rattle.mesh.specs.Mesh.{Mesh, Box, pointCount, cellCount, meshTooLong, Whole}
+use Rattle.mesh.specs.Mesh.{Mesh, Box, pointCount, cellCount, meshTooLong}
 use Rattle.cell_sizes.specs.declared.Settings.{Settings}
 use Rattle.cell_sizes.specs.declared.Sizes.{Sizes}
 use Rattle.cell_sizes.specs.Large.{boxes, isFiled, largeOf, Measured, measure}
@@ -29,7 +29,7 @@ use Rattle.cell_rows.proofs.Rows.{rows-count}
 use Rattle.grid_cells.specs.declared.GridCells.{GridCells}
 use Rattle.grid_cells.specs.declared.Built.{Built}
 use Rattle.grid_cells.specs.declared.Built.the-variants.{Index, Refused}
-use Rattle.grid_cells.specs.Build.{lowCorner, highCorner, index, containersOf, withRows, fileIndex, make, IndexLists, indexLists, listsTooLong, sizeTests, meshTests, settingTests, cellTests, divisionTests, frameTests, rowTests, laterTests, buildTests, Build, settleBuild, build, built, leavesLists}
+use Rattle.grid_cells.specs.Build.{lowCorner, highCorner, index, containersOf, withRows, fileIndex, make, IndexLists, indexLists, listsTooLong, sizeTests, givenTests, divisionTests, frameTests, rowTests, laterTests, buildTests, settleBuild, build, built, leavesLists}
 use Rattle.grid_cells.specs.Steps.{earlyTests, Measurable, Finishable, finishOf}
 use Rattle.grid_cells.proofs.Ways.{divided, answered-by, refused-by}
 
@@ -44,7 +44,7 @@ module _ (n : ℕ) (m : Mesh) (t : Settings) (l : IndexLists) where
   last = rowTests (index n w t) (w .apart) (w .limit) (w .all-boxes) l
 
   tests-are : buildTests n m t l ≡ earlyTests n m t l ++ (frameTests n w t ++ last)
-  unfolding buildTests laterTests earlyTests sizeTests meshTests settingTests cellTests
+  unfolding buildTests laterTests earlyTests sizeTests givenTests
   tests-are = refl
 
   refuse-with : (r : ℕ) → fault (buildTests n m t l) ≡ some r → leavesLists (Refused r) (l .keys) (l .cells) (l .large) ≡ build n m t l
@@ -55,7 +55,7 @@ module _ (n : ℕ) (m : Mesh) (t : Settings) (l : IndexLists) where
   refuse-early {r} e h = refuse-with r (ap fault tests-are ∙ fault-stop (earlyTests n m t l) (frameTests n w t ++ last) r (code-some (fault (earlyTests n m t l)) r e h))
 
   pub early-passed : {r : ℕ} → r ≡ code (fault (earlyTests n m t l)) → r ≡ 0 → fault (earlyTests n m t l) ≡ none
-  unfolding earlyTests sizeTests meshTests settingTests cellTests
+  unfolding earlyTests sizeTests givenTests
   early-passed e z =
       code-none (earlyTests n m t l)
       (λ e. omega arith, (λ e. omega arith, (λ e. omega arith, (λ e. omega arith, (λ e. omega arith, (λ e. omega arith, (λ e. omega arith, (λ e. omega arith, (λ e. omega arith, (λ e. omega arith, tt))))))))))
@@ -70,7 +70,7 @@ module _ (n : ℕ) (m : Mesh) (t : Settings) (l : IndexLists) where
     few-cells e = ltb-false 65536 (cellCount n m) (or-right (ltb 65536 (pointCount n m)) (ltb 65536 (cellCount n m)) (or-left (meshTooLong n m) (listsTooLong l) e))
 
     pub measurable : Measurable n m l
-    unfolding earlyTests sizeTests meshTests settingTests cellTests
+    unfolding earlyTests sizeTests givenTests
     measurable =
         let d = not-false (dimension n) (passes .0) in
         let q = passes .1 .1 in
@@ -118,10 +118,7 @@ module _ (n : ℕ) (m : Mesh) (t : Settings) (l : IndexLists) where
           at-index : Finishable (index n w t) sizes m (cellCount n m) l
           unfolding index
           at-index = record {
-            keyed = index-keyed;
-            whole = measurable .whole;
-            count = refl;
-            few = measurable .few;
+            fileable = record { keyed = index-keyed; whole = measurable .whole; count = refl; few = measurable .few };
             lengths = measurable .lengths;
             large = s .large ∙ rw (large-is, s .apart, s .limit);
           }

@@ -1,14 +1,10 @@
 -- The index of one triangle, evaluated: percentage 1 is 23, the default percentage is accepted.
 -- Assumes nothing.
-use Prim.Native.Nat.{ℕ}
 use mathlib.Core.Path.{_≡_, refl}
-use mathlib.Core.Bool.{true, false}
-use mathlib.Core.Option.{none, some}
-use mathlib.Core.List.{List, [], _∷_}
-use lib.IntN.{pos, negsuc}
-use lib.Ieee.{Float, fin, add, sub, mul, div, ofInt, toUnsigned}
-use Rattle.basics.specs.Refusals.{Answer, refused, success}
-use Rattle.floats.specs.Rounded.{zeroF, pow2, pow2⁻}
+use mathlib.Core.List.{[], _∷_}
+use lib.Ieee.{add, sub, mul, div, ofInt, toUnsigned}
+use Rattle.basics.specs.Refusals.{refused}
+use Rattle.floats.specs.Rounded.{zeroF, pow2}
 use Rattle.floats.specs.Tests.{within}
 use Rattle.grid_search.specs.declared.GivenF64.the-variants.{LeftOut, Given}
 use Rattle.grid_cells.specs.declared.GridCells.{GridCells}

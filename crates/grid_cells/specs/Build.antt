@@ -130,11 +130,6 @@ unfoldable pub sizeTests : ℕ → Mesh → IndexLists → List Test
 unfolding meshTooLong listsTooLong
 sizeTests n m l = refuse 1 (not (dimension n)) ∷ refuse 24 (meshTooLong n m || listsTooLong l) ∷ []
 
--- rows in lists of unequal length, and the mesh by its lists: 13, 19
-unfoldable pub meshTests : ℕ → Mesh → IndexLists → List Test
-unfolding brokenMesh
-meshTests n m l = refuse 13 (not (eqb (length (l .cells)) (length (l .keys)))) ∷ refuse 19 (brokenMesh n m) ∷ []
-
 -- outside 0 to 1
 unfoldable pub notPart : Float → Bool
 unfolding lt
@@ -145,21 +140,19 @@ unfoldable pub settingsOk : Settings → Bool
 unfolding all finite pastLimits
 settingsOk t = all finite (t .tolerance ∷ t .«border_tol» ∷ t .«large_cutoff» ∷ t .«large_pct» ∷ []) && not (pastLimits (t .tolerance) (t .«border_tol»))
 
--- the coordinates and the settings: 3, 8, 9, 20, 21
-unfoldable pub settingTests : List Float → Settings → List Test
-unfolding all settingsOk notPart le lt
-settingTests points t =
-    refuse 3 (not (all coordinate points && settingsOk t))
+-- rows in lists of unequal length, the mesh and the settings: 13, 19, 3, 8, 9, 20, 21, 18
+unfoldable pub givenTests : ℕ → Mesh → Settings → IndexLists → List Test
+unfolding brokenMesh all settingsOk notPart le lt cellCount
+givenTests n m t l =
+    refuse 13 (not (eqb (length (l .cells)) (length (l .keys))))
+    ∷ refuse 19 (brokenMesh n m)
+    ∷ refuse 3 (not (all coordinate (m .points) && settingsOk t))
     ∷ refuse 8 (le (t .tolerance) zeroF)
     ∷ refuse 9 (lt (t .«border_tol») zeroF)
     ∷ refuse 20 (notPart (t .«large_cutoff»))
     ∷ refuse 21 (notPart (t .«large_pct»))
+    ∷ refuse 18 (eqb (cellCount n m) 0)
     ∷ []
-
--- no cells: 18
-unfoldable pub cellTests : ℕ → Mesh → List Test
-unfolding cellCount
-cellTests n m = refuse 18 (eqb (cellCount n m) 0) ∷ []
 
 -- the corners and the divisions: 22, 6
 unfoldable pub divisionTests : List Float → List Float → List ℕ → List Test
@@ -182,10 +175,10 @@ rowTests g apart limit bs l =
 
 -- all that follow 1 and 24
 unfoldable pub laterTests : ℕ → Mesh → Settings → IndexLists → List Test
-unfolding meshTests settingTests cellTests frameTests rowTests measure index
+unfolding givenTests frameTests rowTests measure index
 laterTests n m t l =
     let w = measure n m t in
-    meshTests n m l ++ (settingTests (m .points) t ++ (cellTests n m ++ (frameTests n w t ++ rowTests (index n w t) (w .apart) (w .limit) (w .all-boxes) l)))
+    givenTests n m t l ++ (frameTests n w t ++ rowTests (index n w t) (w .apart) (w .limit) (w .all-boxes) l)
 
 unfoldable pub buildTests : ℕ → Mesh → Settings → IndexLists → List Test
 unfolding sizeTests laterTests

@@ -11,13 +11,13 @@ use Rattle.mesh.specs.Mesh.{Mesh, Box, cellCount, Whole}
 use Rattle.cell_sizes.specs.declared.Settings.{Settings}
 use Rattle.cell_sizes.specs.declared.Sizes.{Sizes}
 use Rattle.cell_sizes.specs.Large.{boxes, largeOf}
-use Rattle.cell_rows.specs.Steps.{Keyed}
+use Rattle.cell_rows.specs.Steps.{Fileable}
 use Rattle.grid_cells.specs.declared.GridCells.{GridCells}
-use Rattle.grid_cells.specs.Build.{containersOf, IndexLists, Build, fileIndex, sizeTests, meshTests, settingTests, cellTests, rowTests, settleBuild}
+use Rattle.grid_cells.specs.Build.{containersOf, IndexLists, Build, fileIndex, sizeTests, givenTests, rowTests, settleBuild}
 
 -- 1, 24, 13, 19, 3, 8, 9, 20, 21, 18
 unfoldable pub earlyTests : ℕ → Mesh → Settings → IndexLists → List Test
-earlyTests n m t l = sizeTests n m l ++ (meshTests n m l ++ (settingTests (m .points) t ++ cellTests n m))
+earlyTests n m t l = sizeTests n m l ++ givenTests n m t l
 
 -- what they leave, so that the cells can be measured
 pub record Measurable (n : ℕ) (m : Mesh) (l : IndexLists) : Type 0 where
@@ -28,10 +28,7 @@ pub record Measurable (n : ℕ) (m : Mesh) (l : IndexLists) : Type 0 where
 
 -- what the last step asks: an index whose containers have keys, and the mesh that was measured
 pub record Finishable (g : GridCells) (sizes : Sizes) (m : Mesh) (ncell : ℕ) (l : IndexLists) : Type 0 where
-  pub keyed : Keyed (containersOf g)
-  pub whole : Whole (g .ndim) m
-  pub count : ncell ≡ cellCount (g .ndim) m
-  pub few : ncell ≤ 65536
+  pub fileable : Fileable (containersOf g) m ncell
   pub lengths : length (l .cells) ≡ length (l .keys)
   pub large : sizes .large ≡ length (largeOf (sizes .apart) (sizes .limit) (boxes (g .ndim) m))
 

@@ -5,9 +5,9 @@ ghost use mathlib.Core.List.{[], _∷_};
 ghost use Rattle.basics.specs.Lists.{all};
 ghost use Rattle.basics.specs.Refusals.{fault, code};
 ghost use Rattle.floats.specs.Tests.{finite};
-ghost use Rattle.geometry.specs.Position.{coordinate};
+ghost use Rattle.geometry.specs.Position.{coordinate, dimension};
 ghost use Rattle.mesh.specs.Mesh.{meshOf};
-ghost use Rattle.grid_cells.specs.Build.{indexLists, listsTooLong, sizeTests, notPart, settingsOk, settingTests};
+ghost use Rattle.grid_cells.specs.Build.{indexLists, listsTooLong, sizeTests, notPart, settingsOk, givenTests};
 ghost use Rattle.grid_cells.specs.Steps.{earlyTests};
 use cell_sizes::Settings;
 
@@ -62,10 +62,25 @@ fn are_values_ok(coords: &[f64], t: Settings) -> bool
         & (are_finite(t) & !grid_search::past_limits(t.tolerance, t.border_tol))
 }
 
-// 3, 8, 9, 20 or 21: the coordinates and the settings.
-fn settings_refused(coords: &[f64], t: Settings) -> u64
-    ensures { λ r. ⌜ r ≡ code (fault (settingTests (now (coords .entry)) t)) ⌝ }
+// 13, 19, 3, 8, 9, 20, 21 or 18: the rows' lists by their lengths, the mesh and the settings.
+fn given_refused(
+    ndim: usize,
+    coords: &[f64],
+    corners: &[u32],
+    t: Settings,
+    keys: &[u64],
+    cells: &[u64],
+    large: &[u64],
+) -> u64
+    requires { ⌜ dimension ndim ≡ true ⌝ }
+    ensures { λ r. ⌜ r ≡ code (fault (givenTests ndim (meshOf (now (coords .entry)) (now (corners .entry))) t (indexLists (now (keys .entry)) (now (cells .entry)) (now (large .entry))))) ⌝ }
 {
+    if cells.len() != keys.len() {
+        return 13;
+    }
+    if mesh::is_broken(ndim, coords, corners) {
+        return 19;
+    }
     if !are_values_ok(coords, t) {
         return 3;
     }
@@ -81,10 +96,13 @@ fn settings_refused(coords: &[f64], t: Settings) -> u64
     if is_no_part(t.large_pct) {
         return 21;
     }
+    if mesh::cell_count(ndim, corners) == 0 {
+        return 18;
+    }
     0
 }
 
-// 1, 24, 13, 19, 3, 8, 9, 20, 21 or 18.
+// 1, 24, and those.
 pub fn refused(
     ndim: usize,
     coords: &[f64],
@@ -100,18 +118,5 @@ pub fn refused(
     if sizes != 0 {
         return sizes;
     }
-    if cells.len() != keys.len() {
-        return 13;
-    }
-    if mesh::is_broken(ndim, coords, corners) {
-        return 19;
-    }
-    let values = settings_refused(coords, settings);
-    if values != 0 {
-        return values;
-    }
-    if mesh::cell_count(ndim, corners) == 0 {
-        return 18;
-    }
-    0
+    given_refused(ndim, coords, corners, settings, keys, cells, large)
 }

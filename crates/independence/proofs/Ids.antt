@@ -5,13 +5,16 @@ use mathlib.Core.Path.{_≡_, refl, sym, _∙_, ap}
 use mathlib.Core.Bool.{Bool, true, false, _||_, or-self-left}
 use mathlib.Core.List.{List, [], _∷_, map}
 use lib.Dec.{ltb, eqb}
-use lib.ListN.{length}
+use lib.ListN.{length, length-map}
 use borrow.Author.Tests.{eqb-true}
 use Rattle.basics.proofs.Bools.{by-test, clash}
 use Rattle.basics.specs.Lists.{keep, has, enter}
+use Rattle.basics.proofs.Lists.{length-keep}
 use Rattle.table.specs.declared.Row.{Row}
 use Rattle.table.specs.Rows.{idIn, own}
-use Rattle.sorting.specs.Ascent.{ascending, enter-ascending, enter-length}
+use Rattle.sorting.specs.Ascent.{ascending}
+use Rattle.sorting.specs.Sorted.{distinct}
+use Rattle.sorting.proofs.Ascent.{distinct-ascending, distinct-length}
 use Rattle.listing.specs.Listing.{idsOf, occupied}
 
 or-left-comm : (a b c : Bool) → (a || (b || c)) ≡ (b || (a || c))
@@ -32,11 +35,15 @@ has-enter i j (k ∷ ks) =
 abbrev pub holds : ℕ → List Row → Bool
 holds i rows = has i (map idIn rows)
 
+has-distinct : (i : ℕ) (xs : List ℕ) → has i (distinct xs) ≡ has i xs
+unfolding has distinct
+has-distinct i [] = refl
+has-distinct i (x ∷ xs) = has-enter i x (distinct xs) ∙ ap (λ (b : Bool). eqb x i || b) (has-distinct i xs)
+
 -- an id is listed exactly if one of the rows that count is its own
 pub has-ids : (i : ℕ) (p : Row → Bool) (rows : List Row) → has i (idsOf p rows) ≡ holds i (keep p rows)
-unfolding has idsOf keep
-has-ids i p [] = refl
-has-ids i p (r ∷ rows) = by-test (p r) (λ e. rw e (has-enter i (idIn r) (idsOf p rows) ∙ ap (λ (b : Bool). eqb (idIn r) i || b) (has-ids i p rows))) (λ e. rw (e, has-ids i p rows))
+unfolding idsOf
+has-ids i p rows = has-distinct i (map idIn (keep p rows))
 
 -- and so among its own rows
 pub holds-own : (i : ℕ) (p : Row → Bool) (rows : List Row) → holds i (keep p rows) ≡ holds i (keep p (own i rows))
@@ -59,11 +66,9 @@ occupied-own i (r ∷ rows) e = refl
 
 -- they ascend strictly, and are at most as many as the rows
 pub ids-ascend : (p : Row → Bool) (rows : List Row) → ascending (idsOf p rows) ≡ true
-unfolding idsOf ascending
-ids-ascend p [] = refl
-ids-ascend p (r ∷ rows) = by-test (p r) (λ e. rw e (enter-ascending (idIn r) (idsOf p rows) (ids-ascend p rows))) (λ e. rw e (ids-ascend p rows))
+unfolding idsOf
+ids-ascend p rows = distinct-ascending (map idIn (keep p rows))
 
 pub ids-no-more : (p : Row → Bool) (rows : List Row) → length (idsOf p rows) ≤ length rows
 unfolding idsOf
-ids-no-more p [] = omega arith
-ids-no-more p (r ∷ rows) = by-test (p r) (λ e. rw e (omega (arith, enter-length (idIn r) (idsOf p rows), ids-no-more p rows))) (λ e. rw e (omega (arith, ids-no-more p rows)))
+ids-no-more p rows = omega (arith, distinct-length (map idIn (keep p rows)), length-map (keep p rows) idIn, length-keep p rows)

@@ -1,6 +1,6 @@
 -- What a listing answers: a refusal of the library, of the place, or the ids.
 -- Assumes nothing.
-use Prim.Native.Nat.{ℕ, zero, suc, _≤_}
+use Prim.Native.Nat.{ℕ, zero, suc, _<_}
 use native.Mathlib.Omega.{arith}
 use mathlib.Core.Path.{_≡_, refl, sym, ap, _∙_, subst}
 use mathlib.Core.Bool.{Bool, true, false, _&&_, _||_}
@@ -8,8 +8,7 @@ use mathlib.Core.Option.{Option, none, some}
 use mathlib.Core.List.{List, [], _∷_, _++_}
 use lib.Dec.{ltb}
 use lib.ListN.{length, getD}
-use lib.Ieee.{Float}
-use borrow.Author.Tests.{ltb-true, ltb-false, leb-true, lt-ltb}
+use borrow.Author.Tests.{ltb-true, ltb-false, lt-ltb}
 use Rattle.basics.proofs.Bools.{and-left, or-left, or-right}
 use Rattle.basics.specs.Lists.{any, tab}
 use Rattle.basics.proofs.Lists.{all-at, getD-tab, length-tab}
@@ -20,9 +19,10 @@ use Rattle.grid.specs.Divisions.{counts}
 use Rattle.grid.specs.Containers.{containers}
 use Rattle.grid_search.specs.declared.GridSearch.{GridSearch}
 use Rattle.table.specs.declared.Row.{Row}
-use Rattle.table.specs.Library.{rowAt, rowsOf, Library, library, table, space, tooLong, fits}
+use Rattle.table.specs.Library.{Library, rowAt, rowsOf, table, space, tooLong}
 use Rattle.rows.specs.Damage.{goodRow, libraryTests}
-use Rattle.rows.proofs.Check.{Whole, whole, numbered, checked, divided}
+use Rattle.rows.specs.Posts.{Checked}
+use Rattle.rows.proofs.Check.{Whole, whole, not-long, numbered, checked, divided}
 use Rattle.listing.specs.declared.Place.{Place}
 use Rattle.listing.specs.declared.Filter.{Filter}
 use Rattle.listing.specs.declared.Listed.{Listed}
@@ -111,80 +111,79 @@ fit s p f rows e =
 
 -- ---- rows in use
 
-pub occupied-used : (keys ids : List ℕ) (xs ys zs : List Float) (used : ℕ) → ltb 0 used ≡ occupied (table (library keys ids xs ys zs used))
-unfolding occupied table rowsOf
-occupied-used keys ids xs ys zs zero = refl
-occupied-used keys ids xs ys zs (suc n) = lt-ltb 0 (suc n) (omega arith)
+pub occupied-used : (l : Library) → ltb 0 (l .used) ≡ occupied (table l)
+unfolding table rowsOf occupied
+occupied-used l = go (l .used) (rowAt l)
+  where
+    go : (n : ℕ) (f : ℕ → Row) → ltb 0 n ≡ occupied (tab n f)
+    go zero f = refl
+    go (suc n) f = lt-ltb 0 (suc n) (omega arith)
 
 -- ---- what a library and a place that pass are known by
 
-module _ (s : GridSearch) (keys ids : List ℕ) (xs ys zs : List Float) (used : ℕ) (p : Place) (f : Filter) where
-  abbrev held : Library
-  held = library keys ids xs ys zs used
-
-  pub known : fault (libraryTests s held) ≡ none → Fit s (asked (s .ndim) p) f → Known s keys ids xs ys zs used p f
-  unfolding libraryTests table space fits tooLong any goodRow rowsOf
+module _ (s : GridSearch) (l : Library) (p : Place) (f : Filter) where
+  pub known : fault (libraryTests s l) ≡ none → Fit s (asked (s .ndim) p) f → Known s l p f
+  unfolding table space tooLong any goodRow rowsOf
   known e g =
-      let w : Whole s held = whole s held e in
-      let room : used ≤ length keys = leb-true used (length keys) (w .room) in
-      let u = unrefused (libraryTests s held) e in
+      let w : Whole s l = whole s l e in
+      let c : Checked s l = checked w in
+      let short = ltb-false 65536 (length (l .keys)) (or-left (ltb 65536 (length (l .keys))) _ (not-long s l e)) in
       record {
-        checked = checked s keys ids xs ys zs used (divided s (w .sheet)) (w .even) room;
-        small = omega (arith, ltb-false 65536 (length keys) (or-left (ltb 65536 (length keys)) _ (u .0)));
+        checked = c;
+        small = omega (arith, short, c .room .0);
         keys-below = λ i h.
-            let r : goodRow s (getD (tab used (rowAt keys ids xs ys zs)) i (rowAt keys ids xs ys zs 0)) ≡ true =
-            all-at (goodRow s) (tab used (rowAt keys ids xs ys zs)) i (rowAt keys ids xs ys zs 0) (omega (arith, length-tab used (rowAt keys ids xs ys zs))) (w .rows) in
-            let q : goodRow s (rowAt keys ids xs ys zs i) ≡ true = subst (λ (row : Row). goodRow s row ≡ true) (getD-tab used (rowAt keys ids xs ys zs) i (rowAt keys ids xs ys zs 0) h) r in
-            ltb-true (getD keys i 0) (containers (counts (s .ndim) (s .ndiv))) (and-left (ltb (getD keys i 0) (containers (counts (s .ndim) (s .ndiv)))) _ q);
+            let long : i < length (tab (l .used) (rowAt l)) = omega (arith, length-tab (l .used) (rowAt l)) in
+            let r : goodRow s (getD (tab (l .used) (rowAt l)) i (rowAt l 0)) ≡ true = all-at (goodRow s) (tab (l .used) (rowAt l)) i (rowAt l 0) long (w .rows) in
+            let q : goodRow s (rowAt l i) ≡ true = subst (λ (row : Row). goodRow s row ≡ true) (getD-tab (l .used) (rowAt l) i (rowAt l 0) h) r in
+            ltb-true (getD (l .keys) i 0) (containers (counts (s .ndim) (s .ndiv))) (and-left (ltb (getD (l .keys) i 0) (containers (counts (s .ndim) (s .ndiv)))) _ q);
         fit = g .place;
         fit-filter = g .filter;
       }
 
 -- ---- the call as the code makes it
 
-module _ (s : GridSearch) (keys ids : List ℕ) (xs ys zs : List Float) (used : ℕ) (p : Asked) (f : Filter) (list : List ℕ) where
-  abbrev lent : Library
-  lent = library keys ids xs ys zs used
+-- the library passes
+module _ (s : GridSearch) (l : Library) {damage : ℕ} (is-damage : damage ≡ code (fault (libraryTests s l))) (sound : damage ≡ 0) where
+  passes-library : fault (libraryTests s l) ≡ none
+  passes-library = numbered s l (sym sound ∙ is-damage)
 
+  pub axes : dimension (s .ndim) ≡ true
+  axes = divided s (whole s l passes-library .sheet) .axes
+
+  -- and the place
+  module _ (p : Asked) (f : Filter) {refusal : ℕ} (is-refusal : refusal ≡ code (fault (placeTests s p f (ltb 0 (l .used))))) (placed : refusal ≡ 0) where
+    passes-place : fault (placeTests s p f (ltb 0 (l .used))) ≡ none
+    passes-place = place-numbered s p f (ltb 0 (l .used)) (sym placed ∙ is-refusal)
+
+    pub walks : (on : Place) → asked (s .ndim) on ≡ p → Known s l on f
+    walks on same = known s l on f passes-library (subst (λ (q : Asked). Fit s q f) (sym same) (fit s p f (ltb 0 (l .used)) passes-place))
+
+module _ (s : GridSearch) (l : Library) (p : Asked) (f : Filter) (list : List ℕ) where
   -- the listing of a place that is the one asked for
-  pub as-asked : (q : Asked) → q ≡ p → (r : Listed) (after : List ℕ) → Lists (listing s lent q f list) r after → Lists (listing s lent p f list) r after
-  as-asked q e r after o = subst (λ (x : Asked). Lists (listing s lent x f list) r after) e o
+  pub as-asked : {q : Asked} → q ≡ p → {r : Listed} {after : List ℕ} → Lists (listing s l q f list) r after → Lists (listing s l p f list) r after
+  as-asked e {r} {after} o = subst (λ (x : Asked). Lists (listing s l x f list) r after) e o
 
-  module _ (damage : ℕ) (is-damage : damage ≡ code (fault (libraryTests s lent))) where
-    pub turned-away : (damage ≡ 0 → ⊥) → Lists (listing s lent p f list) (Refused damage) list
-    turned-away ne = bad-library s lent p f list damage is-damage ne
+  module _ {damage : ℕ} (is-damage : damage ≡ code (fault (libraryTests s l))) where
+    pub turned-away : (damage ≡ 0 → ⊥) → Lists (listing s l p f list) (Refused damage) list
+    turned-away ne = bad-library s l p f list damage is-damage ne
 
     module _ (sound : damage ≡ 0) where
-      pub passes-library : fault (libraryTests s lent) ≡ none
-      passes-library = numbered s lent (sym sound ∙ is-damage)
+      module _ {refusal : ℕ} (is-refusal : refusal ≡ code (fault (placeTests s p f (ltb 0 (l .used))))) where
+        pub misplaced : (refusal ≡ 0 → ⊥) → Lists (listing s l p f list) (Refused refusal) list
+        misplaced ne =
+            bad-place s l p f list (passes-library s l is-damage sound) refusal (is-refusal ∙ ap (λ (b : Bool). code (fault (placeTests s p f b))) (occupied-used l)) ne
 
-      pub axes : dimension (s .ndim) ≡ true
-      axes = divided s (whole s lent passes-library .sheet) .axes
-
-      module _ (fault₂ : ℕ) (is-fault : fault₂ ≡ code (fault (placeTests s p f (ltb 0 used)))) where
-        pub misplaced : (fault₂ ≡ 0 → ⊥) → Lists (listing s lent p f list) (Refused fault₂) list
-        misplaced ne = bad-place s lent p f list passes-library fault₂ (is-fault ∙ ap (λ (b : Bool). code (fault (placeTests s p f b))) (occupied-used keys ids xs ys zs used)) ne
-
-        module _ (placed : fault₂ ≡ 0) where
-          passes-place : fault (placeTests s p f (ltb 0 used)) ≡ none
-          passes-place = place-numbered s p f (ltb 0 used) (sym placed ∙ is-fault)
-
-          pub fits-place : Fit s p f
-          fits-place = fit s p f (ltb 0 used) passes-place
-
-          module _ (on : Place) (same : asked (s .ndim) on ≡ p) where
-            pub walks : Known s keys ids xs ys zs used on f
-            walks = known s keys ids xs ys zs used on f passes-library (subst (λ (q : Asked). Fit s q f) (sym same) fits-place)
-
-            pub gives : (r : Listed) (after : List ℕ) → Out (idsOf (isOn s (asked (s .ndim) on) f) (rowsOf keys ids xs ys zs used)) list r after → Lists (listing s lent p f list) r after
-            unfolding idsOn table
-            gives r after o =
-                listed-out s lent p f list passes-library (ap (λ (b : Bool). fault (placeTests s p f b)) (sym (occupied-used keys ids xs ys zs used)) ∙ passes-place) r after
-                (subst (λ (q : Asked). Out (idsOf (isOn s q f) (rowsOf keys ids xs ys zs used)) list r after) same o)
+        pub gives : refusal ≡ 0 → (on : Place) → asked (s .ndim) on ≡ p → {r : Listed} {after : List ℕ}
+            → Out (idsOf (isOn s (asked (s .ndim) on) f) (table l)) list r after → Lists (listing s l p f list) r after
+        unfolding idsOn
+        gives placed on same {r} {after} o =
+            listed-out s l p f list (passes-library s l is-damage sound)
+            (ap (λ (b : Bool). fault (placeTests s p f b)) (sym (occupied-used l)) ∙ passes-place s l is-damage sound p f is-refusal placed) r after
+            (subst (λ (q : Asked). Out (idsOf (isOn s q f) (table l)) list r after) same o)
 
       -- turned away by 16 or 2, before a place is made
-      pub not-there : (unfit (s .ndim) p || unfitFilter (s .ndim) f) ≡ true → Lists (listing s lent p f list) (Refused 16) list
-      not-there e = misplaced 16 (place-16 s p f (ltb 0 used) e) (λ q. omega arith)
+      pub not-there : (unfit (s .ndim) p || unfitFilter (s .ndim) f) ≡ true → Lists (listing s l p f list) (Refused 16) list
+      not-there e = misplaced (place-16 s p f (ltb 0 (l .used)) e) (λ q. omega arith)
 
-      pub other-length : (dimension (s .ndim) ≡ true → ((unfit (s .ndim) p || unfitFilter (s .ndim) f) ≡ false) × (wrongLength (s .ndim) p ≡ true)) → Lists (listing s lent p f list) (Refused 2) list
-      other-length h = misplaced 2 (place-2 s p f (ltb 0 used) (h axes .0) (h axes .1)) (λ q. omega arith)
+      pub other-length : (dimension (s .ndim) ≡ true → ((unfit (s .ndim) p || unfitFilter (s .ndim) f) ≡ false) × (wrongLength (s .ndim) p ≡ true)) → Lists (listing s l p f list) (Refused 2) list
+      other-length h = let d = axes s l is-damage sound in misplaced (place-2 s p f (ltb 0 (l .used)) (h d .0) (h d .1)) (λ q. omega arith)

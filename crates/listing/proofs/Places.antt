@@ -13,18 +13,22 @@ use borrow.Author.Tests.{eqb-true, ne-eqb, not-true, not-false, leb-true, leb-fa
 use Rattle.basics.proofs.Bools.{by-test, and-left, and-right, or-left, or-right}
 use Rattle.basics.specs.Lists.{zipWith}
 use Rattle.floats.specs.Rounded.{_⊖_, zeroF}
-use Rattle.floats.specs.Tests.{absOf}
+use Rattle.floats.specs.Tests.{within}
 use Rattle.geometry.specs.declared.Position.{Position}
 use Rattle.geometry.specs.Position.{coords, positionOf, axisOf, dimension}
 use Rattle.geometry.proofs.Axes.{two-or-three, coords-of}
 use Rattle.grid.specs.Divisions.{counts}
 use Rattle.grid.specs.Containers.{pivots, centre}
 use Rattle.grid_search.specs.declared.GridSearch.{GridSearch}
+use Rattle.windows.specs.declared.Window.{Window}
+use Rattle.windows.specs.Window.{lies}
+use Rattle.windows.proofs.Tellings.{magnitude-lies}
 use Rattle.listing.specs.declared.Place.{Place}
 use Rattle.listing.specs.declared.Place.the-variants as place
 use Rattle.listing.specs.declared.Filter.{Filter}
 use Rattle.listing.specs.Place.{Asked, line, circle, cylinder, plane, unknown, askedOf, asked, placeDistance, centreOf, unfit, unfitFilter, wrongLength}
 use Rattle.listing.specs.Posts.{Stands}
+use Rattle.listing.specs.Ready.{Even}
 
 -- ---- a place by its number
 
@@ -199,10 +203,13 @@ module _ {p : ℕ} {a b : List Float} {v : Float} {on : Place} (s : Stands p a b
 
 -- ---- distances
 
--- from a plane, which is in space
-pub plane-distance : (n k : ℕ) (v : Float) (x : Position) → dimension n ≡ true → unfit n (plane k v) ≡ false → k < 3 → absOf (axisOf k x ⊖ v) ≡ placeDistance (plane k v) (coords n x)
+-- from a plane, which is in space: by its magnitude
+pub plane-lies : (n k : ℕ) (v : Float) (x : Position) (w : Window) → dimension n ≡ true → unfit n (plane k v) ≡ false → k < 3 → Even w
+    → within (w .to) (axisOf k x ⊖ v) ≡ lies (w .from) (w .to) (placeDistance (plane k v) (coords n x))
 unfolding unfit placeDistance
-plane-distance n k v x d fit h = let e : n ≡ 3 = three-axes n fit in rw (axis-entry n k x d (omega arith))
+plane-lies n k v x w d fit h even =
+    let e : n ≡ 3 = three-axes n fit in
+    magnitude-lies (w .from) (w .to) (axisOf k x ⊖ v) even ∙ rw (axis-entry n k x d (omega arith))
 
 -- the code's centre of a container, as a list
 pub centre-coords : (s : GridSearch) (key : ℕ) (p : Position) → dimension (s .ndim) ≡ true

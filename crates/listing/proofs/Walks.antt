@@ -9,10 +9,9 @@ use mathlib.Core.List.{List, [], _∷_, _++_, map, map-append, append-nil}
 use lib.Dec.{ltb}
 use lib.ListN.{length, getD, take, drop, set, length-append, length-map, length-set}
 use lib.Seq.{getD-set-same, getD-set-other, getD-take, take-append-seam, take-suc, take-suc-set, take-set-le, length-take-le, drop-cons, set-at, append-snoc}
-use lib.Ieee.{Float}
 use borrow.Author.Tests.{lt-ltb, le-ltb}
 use Rattle.basics.proofs.Bools.{by-test}
-use Rattle.basics.specs.Lists.{keep, tab, enter, over}
+use Rattle.basics.specs.Lists.{keep, tab, over}
 use Rattle.basics.proofs.Lists.{map-take}
 use Rattle.basics.specs.Refusals.{fault}
 use Rattle.geometry.specs.declared.Position.{Position}
@@ -20,11 +19,10 @@ use Rattle.geometry.specs.Position.{coords}
 use Rattle.grid_search.specs.declared.GridSearch.{GridSearch}
 use Rattle.table.specs.declared.Row.{Row}
 use Rattle.table.specs.Rows.{keyIn, idIn}
-use Rattle.table.specs.Library.{rowAt, rowsOf}
+use Rattle.table.specs.Library.{Library, rowAt, rowsOf, table}
 use Rattle.sorting.specs.Sorted.{distinct}
-use Rattle.sorting.specs.Posts.{within, Below}
-use Rattle.sorting.proofs.Mixes.{getD-map}
-use Rattle.sorting.proofs.Heaps.{by-index}
+use Rattle.sorting.specs.Posts.{markId, Indices}
+use Rattle.sorting.proofs.Mixes.{getD-map, by-index}
 use Rattle.listing.specs.declared.Place.{Place}
 use Rattle.listing.specs.declared.Filter.{Filter}
 use Rattle.listing.specs.declared.Listed.{Listed}
@@ -45,12 +43,6 @@ unfolding keep
 keep-append p [] ys = refl
 keep-append p (x ∷ xs) ys = by-test (p x) (λ e. rw e (ap (λ (l : List _). x ∷ l) (keep-append p xs ys))) (λ e. rw e (keep-append p xs ys))
 
--- the ids of the rows that count are the numbers of a list, ascending, once each
-ids-distinct : (p : Row → Bool) (rows : List Row) → idsOf p rows ≡ distinct (map idIn (keep p rows))
-unfolding idsOf keep distinct
-ids-distinct p [] = refl
-ids-distinct p (r ∷ rows) = by-test (p r) (λ e. rw e (ap (enter (idIn r)) (ids-distinct p rows))) (λ e. rw e (ids-distinct p rows))
-
 -- the place left, where the next one is past the end
 pub last-place : (b : Bool) (n m room : ℕ) → m ≡ cond b (n + 1) n → n < room → m ≡ room → room ≡ n + 1
 last-place b n m room more h e = by-test b (λ q. let c : m ≡ n + 1 = rw q at more in omega (arith, c, e)) (λ q. let c : m ≡ n = rw q at more in absurd (omega (arith, c, e, h)))
@@ -58,63 +50,63 @@ last-place b n m room more h e = by-test b (λ q. let c : m ≡ n + 1 = rw q at 
 remembered-next : (s : GridSearch) (p : Place) (keys : List ℕ) (i : ℕ) (near : Bool) → near ≡ containerNear s (asked (s .ndim) p) (getD keys i 0) → Remembered s p keys (i + 1) near
 remembered-next s p keys i near e h = let q : i + 1 - 1 ≡ i = omega arith in rw q e
 
-module _ (s : GridSearch) (p : Place) (f : Filter) (keys ids : List ℕ) (xs ys zs : List Float) where
-  abbrev on : Row → Bool
-  on = isOn s (asked (s .ndim) p) f
+abbrev on : GridSearch → Place → Filter → Row → Bool
+on s p f = isOn s (asked (s .ndim) p) f
 
-  abbrev row : ℕ → Row
-  row = rowAt keys ids xs ys zs
+abbrev at : ℕ → ℕ → Bool → Reached
+at i n near = record { row = i; marked = n; near = near }
 
-  rows-next : (i : ℕ) → rowsOf keys ids xs ys zs (i + 1) ≡ rowsOf keys ids xs ys zs i ++ row i ∷ []
-  unfolding rowsOf
-  rows-next i = rw (add-one i) (tab-end i row)
+rows-next : (l : Library) (i : ℕ) → rowsOf l (i + 1) ≡ rowsOf l i ++ rowAt l i ∷ []
+unfolding rowsOf
+rows-next l i = rw (add-one i) (tab-end i (rowAt l))
 
-  ids-next : (i : ℕ) → map idIn (keep on (rowsOf keys ids xs ys zs (i + 1))) ≡ map idIn (keep on (rowsOf keys ids xs ys zs i)) ++ cond (on (row i)) (getD ids i 0 ∷ []) []
-  unfolding keep
-  ids-next i =
-      ap (λ (l : List Row). map idIn (keep on l)) (rows-next i)
-      ∙ ap (map idIn) (keep-append on (rowsOf keys ids xs ys zs i) (row i ∷ []))
-      ∙ map-append idIn (keep on (rowsOf keys ids xs ys zs i)) (keep on (row i ∷ []))
-      ∙ by-test (on (row i)) (λ e. rw e) (λ e. rw e)
+ids-next : (p : Row → Bool) (l : Library) (i : ℕ) → map idIn (keep p (rowsOf l (i + 1))) ≡ map idIn (keep p (rowsOf l i)) ++ cond (p (rowAt l i)) (getD (l .ids) i 0 ∷ []) []
+unfolding keep
+ids-next p l i =
+    ap (λ (rows : List Row). map idIn (keep p rows)) (rows-next l i)
+    ∙ ap (map idIn) (keep-append p (rowsOf l i) (rowAt l i ∷ []))
+    ∙ map-append idIn (keep p (rowsOf l i)) (keep p (rowAt l i ∷ []))
+    ∙ by-test (p (rowAt l i)) (λ e. rw e) (λ e. rw e)
 
-  pub gathered-none : (marks : List ℕ) → Gathered s p f keys ids xs ys zs 0 0 marks
+module _ {s : GridSearch} {p : Place} {f : Filter} {l : Library} where
+  pub gathered-none : (marks : List ℕ) → Gathered s p f l 0 0 marks
   unfolding rowsOf keep
   gathered-none marks = record { upto = omega arith; below = λ i h. absurd (omega arith); ids-are = refl }
 
   -- a row that does not count is passed
-  gathered-passed : {i n : ℕ} {marks : List ℕ} → Gathered s p f keys ids xs ys zs i n marks → on (row i) ≡ false → Gathered s p f keys ids xs ys zs (i + 1) n marks
+  gathered-passed : {i n : ℕ} {marks : List ℕ} → Gathered s p f l i n marks → on s p f (rowAt l i) ≡ false → Gathered s p f l (i + 1) n marks
   gathered-passed {i} {n} {marks} g e = record {
     upto = omega (arith, g .upto);
     below = λ k h. omega (arith, g .below k h);
     ids-are =
         g .ids-are
-        ∙ sym (ids-next i ∙ ap (λ (c : Bool). map idIn (keep on (rowsOf keys ids xs ys zs i)) ++ cond c (getD ids i 0 ∷ []) []) e ∙ append-nil (map idIn (keep on (rowsOf keys ids xs ys zs i))));
+        ∙ sym (ids-next (on s p f) l i ∙ ap (λ (c : Bool). map idIn (keep (on s p f) (rowsOf l i)) ++ cond c (getD (l .ids) i 0 ∷ []) []) e ∙ append-nil (map idIn (keep (on s p f) (rowsOf l i))));
   }
 
   -- one that counts is marked
-  gathered-marked : {i n : ℕ} {marks : List ℕ} → Gathered s p f keys ids xs ys zs i n marks → n < length marks → on (row i) ≡ true → Gathered s p f keys ids xs ys zs (i + 1) (n + 1) (set marks n i)
+  gathered-marked : {i n : ℕ} {marks : List ℕ} → Gathered s p f l i n marks → n < length marks → on s p f (rowAt l i) ≡ true → Gathered s p f l (i + 1) (n + 1) (set marks n i)
   gathered-marked {i} {n} {marks} g room e = record {
     upto = omega (arith, g .upto);
     below = λ k h. by-index k n
         (λ w. subst (λ (m : ℕ). getD (set marks n i) m 0 < i + 1) (sym w) (subst (λ (v : ℕ). v < i + 1) (sym (getD-set-same marks n i 0 room)) (omega arith)))
         (λ w. subst (λ (v : ℕ). v < i + 1) (sym (getD-set-other marks n k i 0 w)) (omega (arith, g .below k (omega arith))));
     ids-are =
-        ap (map (within ids)) (ap (λ (m : ℕ). take m (set marks n i)) (add-one n) ∙ take-suc-set marks n i room)
-        ∙ map-append (within ids) (take n marks) (i ∷ [])
-        ∙ ap (λ (l : List ℕ). l ++ getD ids i 0 ∷ []) (g .ids-are)
-        ∙ sym (ids-next i ∙ ap (λ (c : Bool). map idIn (keep on (rowsOf keys ids xs ys zs i)) ++ cond c (getD ids i 0 ∷ []) []) e);
+        ap (map (markId (l .ids))) (ap (λ (m : ℕ). take m (set marks n i)) (add-one n) ∙ take-suc-set marks n i room)
+        ∙ map-append (markId (l .ids)) (take n marks) (i ∷ [])
+        ∙ ap (λ (front : List ℕ). front ++ getD (l .ids) i 0 ∷ []) (g .ids-are)
+        ∙ sym (ids-next (on s p f) l i ∙ ap (λ (c : Bool). map idIn (keep (on s p f) (rowsOf l i)) ++ cond c (getD (l .ids) i 0 ∷ []) []) e);
   }
 
   -- what is written behind the marks counts for nothing
-  gathered-behind : {i n : ℕ} {marks : List ℕ} (v : ℕ) → Gathered s p f keys ids xs ys zs i n marks → Gathered s p f keys ids xs ys zs i n (set marks n v)
+  gathered-behind : {i n : ℕ} {marks : List ℕ} (v : ℕ) → Gathered s p f l i n marks → Gathered s p f l i n (set marks n v)
   gathered-behind {i} {n} {marks} v g = record {
     upto = g .upto;
     below = λ k h. subst (λ (m : ℕ). m < i) (sym (getD-set-other marks n k v 0 (λ w. omega arith))) (g .below k h);
-    ids-are = ap (map (within ids)) (take-set-le n marks n v (omega arith)) ∙ g .ids-are;
+    ids-are = ap (map (markId (l .ids))) (take-set-le n marks n v (omega arith)) ∙ g .ids-are;
   }
 
   -- the same marks at the front of another list
-  gathered-copied : {i n : ℕ} {marks : List ℕ} (more : List ℕ) → n ≤ length marks → Gathered s p f keys ids xs ys zs i n marks → Gathered s p f keys ids xs ys zs i n (over (take n marks) more)
+  gathered-copied : {i n : ℕ} {marks : List ℕ} (more : List ℕ) → n ≤ length marks → Gathered s p f l i n marks → Gathered s p f l i n (over (take n marks) more)
   unfolding over
   gathered-copied {i} {n} {marks} more h g =
       let len : length (take n marks) ≡ n = length-take-le n marks h in
@@ -122,66 +114,64 @@ module _ (s : GridSearch) (p : Place) (f : Filter) (keys ids : List ℕ) (xs ys 
       ap (λ (k : ℕ). take k (over (take n marks) more)) (sym len) ∙ take-append-seam (take n marks) (drop (length (take n marks)) more) in
       record {
         upto = g .upto;
-        below = λ j k. subst (λ (v : ℕ). v < i) (sym (sym (getD-take n (over (take n marks) more) j 0 k) ∙ ap (λ (l : List ℕ). getD l j 0) same ∙ getD-take n marks j 0 k)) (g .below j k);
-        ids-are = ap (map (within ids)) same ∙ g .ids-are;
+        below = λ j k. subst (λ (v : ℕ). v < i) (sym (sym (getD-take n (over (take n marks) more) j 0 k) ∙ ap (λ (front : List ℕ). getD front j 0) same ∙ getD-take n marks j 0 k)) (g .below j k);
+        ids-are = ap (map (markId (l .ids))) same ∙ g .ids-are;
       }
 
   -- ---- a walk: its start, one row more, and its end
 
-  abbrev at : ℕ → ℕ → Bool → Reached
-  at i n near = record { row = i; marked = n; near = near }
+  pub walked-none : (marks : List ℕ) → 0 < length marks → Walked s p f l (at 0 0 false) marks
+  walked-none marks h = record { upto = omega arith; inside = h; remembered = λ k. absurd (omega arith); gathered = gathered-none marks }
 
-  pub walked-none : (used : ℕ) (marks : List ℕ) → 0 < length marks → Walked s p f keys ids xs ys zs used (at 0 0 false) marks
-  walked-none used marks h = record { upto = omega arith; inside = h; remembered = λ k. absurd (omega arith); gathered = gathered-none marks }
-
-  module _ {used i n : ℕ} {near : Bool} {marks : List ℕ} (now : Bool) (w : Walked s p f keys ids xs ys zs used (at i n near) marks) (h : i < used)
-      (e : now ≡ containerNear s (asked (s .ndim) p) (getD keys i 0)) where
+  module _ {i n : ℕ} {near : Bool} {marks : List ℕ} (now : Bool) (w : Walked s p f l (at i n near) marks) (h : i < l .used)
+      (e : now ≡ containerNear s (asked (s .ndim) p) (getD (l .keys) i 0)) where
     -- a row of a far container
-    pub walked-passed : on (row i) ≡ false → Walked s p f keys ids xs ys zs used (at (i + 1) n now) marks
-    walked-passed c = record { upto = omega (arith, h); inside = w .inside; remembered = remembered-next s p keys i now e; gathered = gathered-passed (w .gathered) c }
+    pub walked-passed : on s p f (rowAt l i) ≡ false → Walked s p f l (at (i + 1) n now) marks
+    walked-passed c = record { upto = omega (arith, h); inside = w .inside; remembered = remembered-next s p (l .keys) i now e; gathered = gathered-passed (w .gathered) c }
 
     -- a row of a near one
-    pub walked-next : (b : Bool) (m : ℕ) → b ≡ on (row i) → m ≡ cond b (n + 1) n → (m ≡ length (set marks n i) → ⊥) → Walked s p f keys ids xs ys zs used (at (i + 1) m now) (set marks n i)
+    pub walked-next : (b : Bool) (m : ℕ) → b ≡ on s p f (rowAt l i) → m ≡ cond b (n + 1) n → (m ≡ length (set marks n i) → ⊥) → Walked s p f l (at (i + 1) m now) (set marks n i)
     walked-next b m k more room =
         by-test b
         (λ q. let c : m ≡ n + 1 = rw q at more in
         record {
           upto = omega (arith, h);
           inside = omega (arith, length-set marks n i, w .inside, room, c);
-          remembered = remembered-next s p keys i now e;
-          gathered = subst (λ (v : ℕ). Gathered s p f keys ids xs ys zs (i + 1) v (set marks n i)) (sym c) (gathered-marked (w .gathered) (w .inside) (sym k ∙ q));
+          remembered = remembered-next s p (l .keys) i now e;
+          gathered = subst (λ (v : ℕ). Gathered s p f l (i + 1) v (set marks n i)) (sym c) (gathered-marked (w .gathered) (w .inside) (sym k ∙ q));
         })
         (λ q. let c : m ≡ n = rw q at more in
         record {
           upto = omega (arith, h);
           inside = omega (arith, length-set marks n i, w .inside, c);
-          remembered = remembered-next s p keys i now e;
-          gathered = subst (λ (v : ℕ). Gathered s p f keys ids xs ys zs (i + 1) v (set marks n i)) (sym c) (gathered-passed (gathered-behind i (w .gathered)) (sym k ∙ q));
+          remembered = remembered-next s p (l .keys) i now e;
+          gathered = subst (λ (v : ℕ). Gathered s p f l (i + 1) v (set marks n i)) (sym c) (gathered-passed (gathered-behind i (w .gathered)) (sym k ∙ q));
         })
 
   -- a row that is given up again, since no place would be left
-  pub walked-back : {used i n : ℕ} {near : Bool} {marks : List ℕ} → Walked s p f keys ids xs ys zs used (at i n near) marks → Walked s p f keys ids xs ys zs used (at i n near) (set marks n i)
-  walked-back {used} {i} {n} {near} {marks} w = record { upto = w .upto; inside = omega (arith, length-set marks n i, w .inside); remembered = w .remembered; gathered = gathered-behind i (w .gathered) }
+  pub walked-back : {i n : ℕ} {near : Bool} {marks : List ℕ} → Walked s p f l (at i n near) marks → Walked s p f l (at i n near) (set marks n i)
+  walked-back {i} {n} {near} {marks} w = record { upto = w .upto; inside = omega (arith, length-set marks n i, w .inside); remembered = w .remembered; gathered = gathered-behind i (w .gathered) }
 
-  pub walked-copied : {used : ℕ} {r : Reached} {few : List ℕ} (more : List ℕ) {after : List ℕ} → after ≡ over (take (r .marked) few) more → r .marked < length after → Walked s p f keys ids xs ys zs used r few
-      → Walked s p f keys ids xs ys zs used r after
-  walked-copied {used} {r} {few} more {after} e h w = record {
+  pub walked-copied : {r : Reached} {few : List ℕ} (more : List ℕ) {after : List ℕ} → after ≡ over (take (r .marked) few) more → r .marked < length after → Walked s p f l r few
+      → Walked s p f l r after
+  walked-copied {r} {few} more {after} e h w = record {
     upto = w .upto;
     inside = h;
     remembered = w .remembered;
-    gathered = subst (Gathered s p f keys ids xs ys zs (r .row) (r .marked)) (sym e) (gathered-copied more (omega (arith, w .inside)) (w .gathered));
+    gathered = subst (Gathered s p f l (r .row) (r .marked)) (sym e) (gathered-copied more (omega (arith, w .inside)) (w .gathered));
   }
 
-  pub walked-below : {used : ℕ} {r : Reached} {marks : List ℕ} → Walked s p f keys ids xs ys zs used r marks → used ≤ length ids → (r .marked ≤ length marks) × Below (length ids) (r .marked) marks
+  pub walked-below : {r : Reached} {marks : List ℕ} → Walked s p f l r marks → l .used ≤ length (l .ids) → (r .marked ≤ length marks) × Indices (length (l .ids)) (r .marked) marks
   walked-below w h = (omega (arith, w .inside), λ j k. omega (arith, w .gathered .below j k, w .upto))
 
   -- where the last row was reached, the ids of the marks are those of the listing
-  pub walked-all : {used : ℕ} {r : Reached} {marks list after : List ℕ} {a : Listed} → Walked s p f keys ids xs ys zs used r marks → used ≤ r .row
-      → Out (distinct (map (within ids) (take (r .marked) marks))) list a after → Out (idsOf on (rowsOf keys ids xs ys zs used)) list a after
-  walked-all {used} {r} {marks} {list} {after} {a} w h o =
-      let e : r .row ≡ used = omega (arith, w .upto) in
-      let g : Gathered s p f keys ids xs ys zs used (r .marked) marks = subst (λ (k : ℕ). Gathered s p f keys ids xs ys zs k (r .marked) marks) e (w .gathered) in
-      subst (λ (l : List ℕ). Out l list a after) (ap distinct (g .ids-are) ∙ sym (ids-distinct on (rowsOf keys ids xs ys zs used))) o
+  pub walked-all : {r : Reached} {marks list after : List ℕ} {a : Listed} → Walked s p f l r marks → l .used ≤ r .row
+      → Out (distinct (map (markId (l .ids)) (take (r .marked) marks))) list a after → Out (idsOf (on s p f) (table l)) list a after
+  unfolding table idsOf
+  walked-all {r} {marks} {list} {after} {a} w h o =
+      let e : r .row ≡ l .used = omega (arith, w .upto) in
+      let g : Gathered s p f l (l .used) (r .marked) marks = subst (λ (k : ℕ). Gathered s p f l k (r .marked) marks) e (w .gathered) in
+      subst (λ (found : List ℕ). Out found list a after) (ap distinct (g .ids-are)) o
 
 -- ---- whether a row counts, by its container and by itself
 
@@ -196,15 +186,15 @@ module _ (s : GridSearch) (p : Asked) (f : Filter) (row : Row) where
 
 -- ---- the two ways out
 
-module _ (ids marks out : List ℕ) (n : ℕ) (inside : n ≤ length marks) (are : map (within ids) (take n marks) ≡ out) (list : List ℕ) where
+module _ (ids marks out : List ℕ) (n : ℕ) (inside : n ≤ length marks) (are : map (markId ids) (take n marks) ≡ out) (list : List ℕ) where
   count : length out ≡ n
-  count = ap length (sym are) ∙ length-map (take n marks) (within ids) ∙ length-take-le n marks inside
+  count = ap length (sym are) ∙ length-map (take n marks) (markId ids) ∙ length-take-le n marks inside
 
   pub out-short : length list < n → Out out list (Refused 14) list
   unfolding listOut fault
   out-short h = let t : ltb (length list) (length out) ≡ true = lt-ltb (length list) (length out) (omega (arith, count)) in record { answers = rw t; list-is = rw t }
 
-  pub out-long : (after : List ℕ) → n ≤ length list → after ≡ over (map (within ids) (take n marks)) list → Out out list (Count n) after
+  pub out-long : (after : List ℕ) → n ≤ length list → after ≡ over (map (markId ids) (take n marks)) list → Out out list (Count n) after
   unfolding listOut fault
   out-long after h e =
       let t : ltb (length list) (length out) ≡ false = le-ltb (length list) (length out) (omega (arith, count)) in
@@ -228,8 +218,8 @@ copied-next new list j h room =
     ∙ ap (λ (r : List ℕ). r ++ drop (length r) list) (sym more)
 
 pub written-next : (keys marks list : List ℕ) (j : ℕ) → j < length marks → j < length list
-    → set (over (map (within keys) (take j marks)) list) j (within keys (getD marks j 0)) ≡ over (map (within keys) (take (j + 1) marks)) list
+    → set (over (map (markId keys) (take j marks)) list) j (markId keys (getD marks j 0)) ≡ over (map (markId keys) (take (j + 1) marks)) list
 written-next keys marks list j h room =
-    ap₂ (λ (l : List ℕ) (y : ℕ). set (over l list) j y) (map-take (within keys) j marks) (sym (getD-map (within keys) marks j h))
-    ∙ copied-next (map (within keys) marks) list j (omega (arith, length-map marks (within keys))) room
-    ∙ ap (λ (l : List ℕ). over l list) (sym (map-take (within keys) (j + 1) marks))
+    ap₂ (λ (l : List ℕ) (y : ℕ). set (over l list) j y) (map-take (markId keys) j marks) (sym (getD-map (markId keys) marks j h))
+    ∙ copied-next (map (markId keys) marks) list j (omega (arith, length-map marks (markId keys))) room
+    ∙ ap (λ (l : List ℕ). over l list) (sym (map-take (markId keys) (j + 1) marks))

@@ -1,5 +1,5 @@
 -- The words of the contracts of module 8.
 pub mod Place
-pub mod Window
+pub mod Ready
 pub mod Listing
 pub mod Posts

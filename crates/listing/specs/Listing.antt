@@ -2,18 +2,19 @@
 -- Assumes nothing.
 use Prim.Native.Nat.{ℕ}
 use mathlib.Core.Path.{_≡_}
-use mathlib.Core.Bool.{Bool, true, false, cond}
+use mathlib.Core.Bool.{Bool, true, false}
 use mathlib.Core.Option.{Option, none, some}
-use mathlib.Core.List.{List, [], _∷_, _++_}
+use mathlib.Core.List.{List, [], _∷_, _++_, map}
 use lib.Dec.{ltb}
 use lib.ListN.{length}
-use Rattle.basics.specs.Lists.{enter, over}
+use Rattle.basics.specs.Lists.{keep, over}
 use Rattle.basics.specs.Refusals.{Test, refuse, fault, Answer, refused, success}
 use Rattle.grid_search.specs.declared.GridSearch.{GridSearch}
 use Rattle.table.specs.declared.Row.{Row}
 use Rattle.table.specs.Rows.{idIn}
 use Rattle.table.specs.Library.{Library, table}
 use Rattle.rows.specs.Damage.{libraryTests}
+use Rattle.sorting.specs.Sorted.{distinct}
 use Rattle.listing.specs.declared.Filter.{Filter}
 use Rattle.listing.specs.declared.Listed.{Listed}
 use Rattle.listing.specs.declared.Listed.the-variants.{Count, Refused}
@@ -21,9 +22,8 @@ use Rattle.listing.specs.Place.{Asked, isOn, placeTests}
 
 -- the ids of the rows that count, ascending, once each
 unfoldable pub idsOf : (Row → Bool) → List Row → List ℕ
-unfolding enter
-idsOf p [] = []
-idsOf p (r ∷ rows) = let rest = idsOf p rows in cond (p r) (enter (idIn r) rest) rest
+unfolding distinct keep
+idsOf p rows = distinct (map idIn (keep p rows))
 
 unfoldable pub occupied : List Row → Bool
 occupied [] = false

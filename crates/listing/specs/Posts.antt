@@ -14,9 +14,9 @@ use Rattle.grid.specs.Divisions.{counts}
 use Rattle.grid.specs.Containers.{containers}
 use Rattle.grid_search.specs.declared.GridSearch.{GridSearch}
 use Rattle.table.specs.Rows.{idIn}
-use Rattle.table.specs.Library.{rowsOf}
+use Rattle.table.specs.Library.{Library, rowsOf}
 use Rattle.rows.specs.Posts.{Checked}
-use Rattle.sorting.specs.Posts.{within, Below}
+use Rattle.sorting.specs.Posts.{markId, Indices}
 use Rattle.listing.specs.declared.Place.{Place}
 use Rattle.listing.specs.declared.Filter.{Filter}
 use Rattle.listing.specs.declared.Listed.{Listed}
@@ -31,10 +31,10 @@ pub record Stands (p : ℕ) (a b : List Float) (v : Float) (on : Place) : Type 0
   pub alike : (n : ℕ) → p ≤ 5 → unfit n (asked n on) ≡ unfit n (askedOf p a b v)
 
 -- what is known of the sheet, the rows, the place and the filter when the rows are walked
-pub record Known (s : GridSearch) (keys ids : List ℕ) (xs ys zs : List Float) (used : ℕ) (p : Place) (f : Filter) : Type 0 where
-  pub checked : Checked s keys ids xs ys zs used
-  pub small : used ≤ 65536
-  pub keys-below : (i : ℕ) → i < used → getD keys i 0 < containers (counts (s .ndim) (s .ndiv))
+pub record Known (s : GridSearch) (l : Library) (p : Place) (f : Filter) : Type 0 where
+  pub checked : Checked s l
+  pub small : l .used ≤ 65536
+  pub keys-below : (i : ℕ) → i < l .used → getD (l .keys) i 0 < containers (counts (s .ndim) (s .ndiv))
   pub fit : unfit (s .ndim) (asked (s .ndim) p) ≡ false
   pub fit-filter : unfitFilter (s .ndim) f ≡ false
 
@@ -43,17 +43,17 @@ abbrev pub Remembered : GridSearch → Place → List ℕ → ℕ → Bool → T
 Remembered s p keys i near = 0 < i → near ≡ containerNear s (asked (s .ndim) p) (getD keys (i - 1) 0)
 
 -- n of the first i rows count, and the first n marks are their indices
-pub record Gathered (s : GridSearch) (p : Place) (f : Filter) (keys ids : List ℕ) (xs ys zs : List Float) (i n : ℕ) (marks : List ℕ) : Type 0 where
+pub record Gathered (s : GridSearch) (p : Place) (f : Filter) (l : Library) (i n : ℕ) (marks : List ℕ) : Type 0 where
   pub upto : n ≤ i
-  pub below : Below i n marks
-  pub ids-are : map (within ids) (take n marks) ≡ map idIn (keep (isOn s (asked (s .ndim) p) f) (rowsOf keys ids xs ys zs i))
+  pub below : Indices i n marks
+  pub ids-are : map (markId (l .ids)) (take n marks) ≡ map idIn (keep (isOn s (asked (s .ndim) p) f) (rowsOf l i))
 
 -- a walk came to a row, and has marked the rows before it that count; there is a place for one more
-pub record Walked (s : GridSearch) (p : Place) (f : Filter) (keys ids : List ℕ) (xs ys zs : List Float) (used : ℕ) (r : Reached) (marks : List ℕ) : Type 0 where
-  pub upto : r .row ≤ used
+pub record Walked (s : GridSearch) (p : Place) (f : Filter) (l : Library) (r : Reached) (marks : List ℕ) : Type 0 where
+  pub upto : r .row ≤ l .used
   pub inside : r .marked < length marks
-  pub remembered : Remembered s p keys (r .row) (r .near)
-  pub gathered : Gathered s p f keys ids xs ys zs (r .row) (r .marked) marks
+  pub remembered : Remembered s p (l .keys) (r .row) (r .near)
+  pub gathered : Gathered s p f l (r .row) (r .marked) marks
 
 -- what is returned, and what the list holds at exit, where only 14 can turn the call away
 pub record Out (ids list : List ℕ) (r : Listed) (after : List ℕ) : Type 0 where

@@ -6,12 +6,17 @@ ghost use mathlib.Core.Bool.{true, false, cond};
 ghost use mathlib.Core.List.{map};
 ghost use lib.ListN.{length, getD, take};
 ghost use Rattle.basics.specs.Lists.{over};
-ghost use Rattle.table.specs.Library.{rowAt, rowsOf};
+ghost use Rattle.geometry.specs.Position.{dimension};
+ghost use Rattle.grid.specs.Divisions.{counts};
+ghost use Rattle.grid.specs.Containers.{containers};
+ghost use Rattle.table.specs.Library.{library, rowAt, table};
+ghost use Rattle.table.specs.Posts.{Room, lists};
+ghost use Rattle.rows.specs.Posts.{Divided};
 ghost use Rattle.sorting.specs.Sorted.{distinct};
-ghost use Rattle.sorting.specs.Posts.{within, Below};
-ghost use Rattle.listing.specs.Place.{asked, isOn, containerNear};
+ghost use Rattle.sorting.specs.Posts.{markId, Indices};
+ghost use Rattle.listing.specs.Place.{asked, unfit, unfitFilter, isOn, containerNear};
 ghost use Rattle.floats.specs.Rounded.{_⊕_};
-ghost use Rattle.listing.specs.Window.{Made};
+ghost use Rattle.listing.specs.Ready.{Made};
 ghost use Rattle.listing.specs.Listing.{idsOf};
 ghost use Rattle.listing.specs.Posts.{Known, Remembered, Walked, Out};
 use crate::Filter;
@@ -24,22 +29,9 @@ use grid_search::GridSearch;
 
 // Whether row i's container is near. Rows of a container stand side by side, so that one centre is measured for each
 // container.
-fn near_now(
-    sheet: GridSearch,
-    keys: &[u64],
-    ids: &[u64],
-    xs: &[f64],
-    ys: &[f64],
-    zs: &[f64],
-    used: usize,
-    place: Place,
-    filter: Filter,
-    r: Ready,
-    i: usize,
-    near: bool,
-) -> bool
-    requires { ⌜ Known sheet (now keys) (now ids) (now xs) (now ys) (now zs) used place filter ⌝ }
-    requires { ⌜ (i < used) × Remembered sheet place (now keys) i near ⌝ }
+fn near_now(sheet: GridSearch, keys: &[u64], place: Place, r: Ready, i: usize, near: bool) -> bool
+    requires { ⌜ Divided sheet ⌝ ∗ ⌜ unfit (sheet .ndim) (asked (sheet .ndim) place) ≡ false ⌝ ∗ ⌜ Remembered sheet place (now keys) i near ⌝ }
+    requires { ⌜ (i < length (now keys)) × (getD (now keys) i 0 < containers (counts (sheet .ndim) (sheet .ndiv))) ⌝ }
     requires { ⌜ Made (sheet .ndim) place (sheet .radius ⊕ sheet .«tol_dist») (sheet .«tol_dist») r ⌝ }
     ensures { λ v. ⌜ v ≡ containerNear sheet (asked (sheet .ndim) place) (getD (now (keys .entry)) i 0) ⌝ }
 {
@@ -61,16 +53,15 @@ fn row_counts(
     xs: &[f64],
     ys: &[f64],
     zs: &[f64],
-    used: usize,
     place: Place,
     filter: Filter,
     r: Ready,
     i: usize,
 ) -> bool
-    requires { ⌜ Known sheet (now keys) (now ids) (now xs) (now ys) (now zs) used place filter ⌝ }
-    requires { ⌜ i < used ⌝ ∗ ⌜ containerNear sheet (asked (sheet .ndim) place) (getD (now keys) i 0) ≡ true ⌝ }
+    requires { ⌜ dimension (sheet .ndim) ≡ true ⌝ ∗ ⌜ unfit (sheet .ndim) (asked (sheet .ndim) place) ≡ false ⌝ ∗ ⌜ unfitFilter (sheet .ndim) filter ≡ false ⌝ }
+    requires { ⌜ Room (lists (now keys) (now ids) (now xs) (now ys) (now zs)) (i + 1) ⌝ ∗ ⌜ containerNear sheet (asked (sheet .ndim) place) (getD (now keys) i 0) ≡ true ⌝ }
     requires { ⌜ Made (sheet .ndim) place (sheet .radius ⊕ sheet .«tol_dist») (sheet .«tol_dist») r ⌝ }
-    ensures { λ v. ⌜ v ≡ isOn sheet (asked (sheet .ndim) place) filter (rowAt (now (keys .entry)) (now (ids .entry)) (now (xs .entry)) (now (ys .entry)) (now (zs .entry)) i) ⌝ }
+    ensures { λ v. ⌜ v ≡ isOn sheet (asked (sheet .ndim) place) filter (rowAt (lists (now (keys .entry)) (now (ids .entry)) (now (xs .entry)) (now (ys .entry)) (now (zs .entry))) i) ⌝ }
 {
     let row = table::read_row(keys, ids, xs, ys, zs, i);
     near::point_counts(sheet, place, r, filter, row.at)
@@ -109,36 +100,23 @@ fn gather(
     from: Reached,
     marks: &mut [u16],
 ) -> Reached
-    requires { ⌜ Known sheet (now keys) (now ids) (now xs) (now ys) (now zs) used place filter ⌝ }
+    requires { ⌜ Known sheet (library (now keys) (now ids) (now xs) (now ys) (now zs) used) place filter ⌝ }
     requires { ⌜ Made (sheet .ndim) place (sheet .radius ⊕ sheet .«tol_dist») (sheet .«tol_dist») r ⌝ }
-    requires { ⌜ Walked sheet place filter (now keys) (now ids) (now xs) (now ys) (now zs) used from (now marks) ⌝ }
-    ensures { λ to. ⌜ Walked sheet place filter (now (keys .entry)) (now (ids .entry)) (now (xs .entry)) (now (ys .entry)) (now (zs .entry)) used to (now (marks .exit)) ⌝ }
+    requires { ⌜ Walked sheet place filter (library (now keys) (now ids) (now xs) (now ys) (now zs) used) from (now marks) ⌝ }
+    ensures { λ to. ⌜ Walked sheet place filter (library (now (keys .entry)) (now (ids .entry)) (now (xs .entry)) (now (ys .entry)) (now (zs .entry)) used) to (now (marks .exit)) ⌝ }
     ensures { λ to. ⌜ (to .row < used → length (now (marks .exit)) ≡ to .marked + 1) ⌝ }
 {
     let mut n = from.marked;
     let mut near = from.near;
     let mut i = from.row;
     while i < used {
-        let now = near_now(
-            sheet,
-            keys,
-            ids,
-            xs,
-            ys,
-            zs,
-            used,
-            place,
-            filter,
-            r,
-            i,
-            near,
-        );
+        let now = near_now(sheet, keys, place, r, i, near);
         if !now {
             near = now;
             i += 1;
             continue;
         }
-        let counts = row_counts(sheet, keys, ids, xs, ys, zs, used, place, filter, r, i);
+        let counts = row_counts(sheet, keys, ids, xs, ys, zs, place, filter, r, i);
         marks[n] = i as u16;
         let more = advanced(n, counts);
         if more == marks.len() {
@@ -162,15 +140,15 @@ fn gather(
 // The id of a mark.
 fn id_of(ids: &[u64], mark: u16) -> u64
     requires { ⌜ mark < length (now ids) ⌝ }
-    ensures { λ r. ⌜ r ≡ within (now (ids .entry)) mark ⌝ }
+    ensures { λ r. ⌜ r ≡ markId (now (ids .entry)) mark ⌝ }
 {
     ids[mark as usize]
 }
 
 // Writes the ids of the first n marks to the front of the list.
 fn write_ids(marks: &[u16], n: usize, ids: &[u64], list: &mut [u64])
-    requires { ⌜ n ≤ length (now marks) ⌝ ∗ ⌜ n ≤ length (now list) ⌝ ∗ ⌜ Below (length (now ids)) n (now marks) ⌝ }
-    ensures { λ _. ⌜ now (list .exit) ≡ over (map (within (now (ids .entry))) (take n (now (marks .entry)))) (now (list .entry)) ⌝ }
+    requires { ⌜ n ≤ length (now marks) ⌝ ∗ ⌜ n ≤ length (now list) ⌝ ∗ ⌜ Indices (length (now ids)) n (now marks) ⌝ }
+    ensures { λ _. ⌜ now (list .exit) ≡ over (map (markId (now (ids .entry))) (take n (now (marks .entry)))) (now (list .entry)) ⌝ }
 {
     let mut j = 0;
     while j < n {
@@ -181,8 +159,8 @@ fn write_ids(marks: &[u16], n: usize, ids: &[u64], list: &mut [u64])
 
 // Writes the ids of the first n marks to the front of the list, ascending and once each: how many they are, or 14.
 fn list_marked(marks: &mut [u16], n: usize, ids: &[u64], list: &mut [u64]) -> Listed
-    requires { ⌜ n ≤ length (now marks) ⌝ ∗ ⌜ Below (length (now ids)) n (now marks) ⌝ }
-    ensures { λ r. ⌜ Out (distinct (map (within (now (ids .entry))) (take n (now (marks .entry))))) (now (list .entry)) r (now (list .exit)) ⌝ }
+    requires { ⌜ n ≤ length (now marks) ⌝ ∗ ⌜ Indices (length (now ids)) n (now marks) ⌝ }
+    ensures { λ r. ⌜ Out (distinct (map (markId (now (ids .entry))) (take n (now (marks .entry))))) (now (list .entry)) r (now (list .exit)) ⌝ }
 {
     let m = sorting::select_by(marks, n, ids);
     if list.len() < m {
@@ -221,10 +199,10 @@ fn list_many(
     few: &[u16],
     list: &mut [u64],
 ) -> Listed
-    requires { ⌜ Known sheet (now keys) (now ids) (now xs) (now ys) (now zs) used place filter ⌝ }
+    requires { ⌜ Known sheet (library (now keys) (now ids) (now xs) (now ys) (now zs) used) place filter ⌝ }
     requires { ⌜ Made (sheet .ndim) place (sheet .radius ⊕ sheet .«tol_dist») (sheet .«tol_dist») r ⌝ }
-    requires { ⌜ Walked sheet place filter (now keys) (now ids) (now xs) (now ys) (now zs) used from (now few) ⌝ }
-    ensures { λ r. ⌜ Out (idsOf (isOn sheet (asked (sheet .ndim) place) filter) (rowsOf (now (keys .entry)) (now (ids .entry)) (now (xs .entry)) (now (ys .entry)) (now (zs .entry)) used)) (now (list .entry)) r (now (list .exit)) ⌝ }
+    requires { ⌜ Walked sheet place filter (library (now keys) (now ids) (now xs) (now ys) (now zs) used) from (now few) ⌝ }
+    ensures { λ r. ⌜ Out (idsOf (isOn sheet (asked (sheet .ndim) place) filter) (table (library (now (keys .entry)) (now (ids .entry)) (now (xs .entry)) (now (ys .entry)) (now (zs .entry)) used))) (now (list .entry)) r (now (list .exit)) ⌝ }
 {
     let mut marks = [0u16; 65537];
     copy_marks(few, from.marked, &mut marks);
@@ -275,8 +253,8 @@ pub(crate) fn list_on(
     filter: Filter,
     list: &mut [u64],
 ) -> Listed
-    requires { ⌜ Known sheet (now keys) (now ids) (now xs) (now ys) (now zs) used place filter ⌝ }
-    ensures { λ r. ⌜ Out (idsOf (isOn sheet (asked (sheet .ndim) place) filter) (rowsOf (now (keys .entry)) (now (ids .entry)) (now (xs .entry)) (now (ys .entry)) (now (zs .entry)) used)) (now (list .entry)) r (now (list .exit)) ⌝ }
+    requires { ⌜ Known sheet (library (now keys) (now ids) (now xs) (now ys) (now zs) used) place filter ⌝ }
+    ensures { λ r. ⌜ Out (idsOf (isOn sheet (asked (sheet .ndim) place) filter) (table (library (now (keys .entry)) (now (ids .entry)) (now (xs .entry)) (now (ys .entry)) (now (zs .entry)) used))) (now (list .entry)) r (now (list .exit)) ⌝ }
 {
     let r = near::made_ready(sheet, place);
     let start = Reached {

@@ -11,7 +11,7 @@ use Rattle.geometry.specs.Position.{positionOf}
 use Rattle.geometry.specs.declared.Zeta.{Zeta}
 use Rattle.geometry.specs.Cells.{zetas, triangleCoords, tetrahedronCoords, inside}
 use Rattle.grid.specs.Containers.{outside}
-use Rattle.mesh.specs.Mesh.{Mesh, Box, cornerPoints, boxOf}
+use Rattle.mesh.specs.Mesh.{Mesh, cornerPoints, boxOf}
 
 -- the coordinates of a position in a cell: three in a triangle, four in a tetrahedron
 unfoldable pub cellZeta : ℕ → List (List Float) → List Float → Zeta

@@ -1,7 +1,7 @@
--- Laws: of sorted lists, which callers cite, of lists mixed by a swap, and of heaps.
+-- Laws: of sorted lists, which callers cite, and of lists sorted by parts.
+pub mod Ascent
 pub mod Counts
 pub mod Orders
 pub mod Mixes
-pub mod Heaps
+pub mod Splits
 pub mod Distinct
-pub mod Parts

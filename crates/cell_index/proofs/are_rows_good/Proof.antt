@@ -1,8 +1,7 @@
 -- `cell_index::are_rows_good` meets its contract. Invariant: the flag says it of the rows passed. Assumes nothing.
 use Prim.Native.Nat.{_+_, _-_, _<_}
-use Rattle.basics.specs.Lists.{tab}
-use Rattle.cell_index.proofs.Linked.{linked, linked-turn, linked-end, rows-linked, no-rows}
-use Rattle.cell_index.specs.Index.{goodSlot, goodRows}
+use Rattle.cell_index.proofs.Linked.{goodSlot, linked, linked-turn, linked-end, rows-linked, no-rows}
+use Rattle.cell_index.specs.Index.{goodRows}
 use Rattle.table.specs.Rows.{before, slotAt, slotsOf}
 use borrow.Author.Needs.{needs}
 use lib.ListN.{drop}
@@ -27,7 +26,7 @@ loop-holds c = let a = c .before .before .before .args in
     (omega (arith, c .if1 .left), rows-linked (a .count) (a .ncell) (slotsOf (a .keys .now) (a .cells .now) (a .used)))
 
 loop-again : tie.Need-loop-again Inv-loop μ-loop
-unfolding slotsOf goodSlot
+unfolding slotsOf
 loop-again c = let l = c .before .before .before .before .before .before .before .before in
     let a = l .before .before .before .before .args in
     let slot = slotAt (a .keys .now) (a .cells .now) in
@@ -37,7 +36,7 @@ loop-again c = let l = c .before .before .before .before .before .before .before
     (omega arith, l .loop .inv .1 ∙ turn ∙ ap (λ (t : Bool). (l .loop .ok && (good (slot i) && t)) && linked good before (drop (i + 1) (slotsOf (a .keys .now) (a .cells .now) (a .used)))) (sym (c .ahead .ensures)))
 
 returns-2 : tie.Need-returns-2 Inv-loop μ-loop
-unfolding slotsOf goodSlot
+unfolding slotsOf
 returns-2 c = let l = c .before .before .before in
     let a = l .before .before .before .before .args in
     sym (l .loop .inv .1 ∙ linked-end (goodSlot (a .count) (a .ncell)) before (a .used) (slotAt (a .keys .now) (a .cells .now)) (l .loop .i) (l .loop .ok) (l .loop .inv .0) (omega arith))

@@ -20,7 +20,7 @@ loop-holds : tie.Need-loop-holds Inv-loop μ-loop
 loop-holds c = (refl, tally-start)
 
 bounding-box-requires : tie.Need-bounding-box-requires Inv-loop μ-loop
-bounding-box-requires c κs = let s = c .before .before .before .before in (s .pre .1 .0, omega (arith, s .pre .1 .1, c .loop-test .taken))
+bounding-box-requires c κs = let s = c .before .before .before .before in (s .pre .whole, omega (arith, s .pre .count, c .loop-test .taken))
 
 enum-told : tie.Need-enum-told Inv-loop μ-loop
 enum-told c = search needs
@@ -29,23 +29,23 @@ returns : tie.Need-returns Inv-loop μ-loop
 returns c = let s = c .before .before .before .before .before .before .before .before .before in
     let l = c .before .before .before .before .before in
     let b = c .before .before .before .before .bounding-box in
-    tally-far (l .before .loop .inv .1) (omega (arith, s .pre .1 .1, l .loop-test .taken)) (b .ensures) (rw (c .enum-told .given .1) at (c .before .before .cell-keys .ensures))
+    tally-far (l .before .loop .inv .1) (omega (arith, s .pre .count, l .loop-test .taken)) (b .ensures) (rw (c .enum-told .given .1) at (c .before .before .cell-keys .ensures))
 
 add-n : tie.Need-add-n Inv-loop μ-loop
 add-n c = let s = c .before .before .before .before .before .before .before .before .before .before in
     let l = c .before .before .before .before .before .before in
     let held = rw (c .before .more .given .1) at (c .before .before .before .cell-keys .ensures) in
-    omega (arith, held .few, l .before .loop .inv .1 .few, s .pre .1 .1, l .loop-test .taken)
+    omega (arith, held .few, l .before .loop .inv .1 .few, s .pre .count, s .pre .few, l .loop-test .taken)
 
 loop-again : tie.Need-loop-again Inv-loop μ-loop
 loop-again c = let s = c .before .before .before .before .before .before .before .before .before .before in
     let l = c .before .before .before .before .before .before in
     let b = c .before .before .before .before .before .bounding-box in
     let held = rw (c .before .more .given .1) at (c .before .before .before .cell-keys .ensures) in
-    (held .size, tally-next (l .before .loop .inv .1) (omega (arith, s .pre .1 .1, l .loop-test .taken)) (b .ensures) held)
+    (held .size, tally-next (l .before .loop .inv .1) (omega (arith, s .pre .count, l .loop-test .taken)) (b .ensures) held)
 
 returns-2 : tie.Need-returns-2 Inv-loop μ-loop
-returns-2 c = tally-end (c .before .loop .inv .1) (omega (arith, c .before .before .before .before .pre .1 .1, c .loop-test .left))
+returns-2 c = tally-end (c .before .loop .inv .1) (omega (arith, c .before .before .before .before .pre .count, c .loop-test .left))
 
 pub count-rows-spec : {M : Type 1} → statement M
 count-rows-spec =

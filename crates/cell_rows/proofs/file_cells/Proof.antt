@@ -17,7 +17,7 @@ returns c = let u = c .before .before .before .before in
     let s = k .before .before .before .before .before .before in
     let m = meshOf (s .args .coords .now) (s .args .corners .now) in
     let bs = boxes (s .args .grid .ndim) m in
-    let few : length bs ≤ 65536 = omega (arith, length-boxes (s .args .grid .ndim) m, s .pre .1 .1 .0, s .pre .1 .1 .1 .0) in
+    let few : length bs ≤ 65536 = omega (arith, length-boxes (s .args .grid .ndim) m, s .pre .0 .count, s .pre .0 .few) in
     let filed = isFiled (s .args .sizes .apart) (s .args .sizes .limit) in
     filed-rows (s .args .grid) filed bs few (k .pack-rows .ensures) (t .sort .ensures) (u .unpack .ensures .0) (u .unpack .ensures .1)
 

@@ -17,52 +17,52 @@ abbrev μ-loop : tie.MeasureT-loop
 μ-loop grid sizes coords corners ncell rows₀ ndim keys₀ n₀ cell₀ rows keys n cell = ncell - cell
 
 loop-holds : tie.Need-loop-holds Inv-loop μ-loop
-loop-holds c = (refl, packing-start (c .before .before .before .pre .1 .1 .1 .1))
+loop-holds c = (refl, packing-start (c .before .before .before .pre .1))
 
 cell-keys-requires : tie.Need-cell-keys-requires Inv-loop μ-loop
-cell-keys-requires c κs = (c .before .before .before .before .before .before .before .pre .0, c .before .before .before .loop .inv .0)
+cell-keys-requires c κs = (c .before .before .before .before .before .before .before .pre .0 .keyed, c .before .before .before .loop .inv .0)
 
 enum-told : tie.Need-enum-told Inv-loop μ-loop
 enum-told c = search needs
 
 same-length : tie.Need-same-length Inv-loop μ-loop
-same-length c = let l = c .before .before .before .before .before .before in packing-length (l .before .before .before .before .pre .1 .1 .1 .1) (l .loop .inv .1)
+same-length c = let l = c .before .before .before .before .before .before in packing-length (l .before .before .before .before .pre .1) (l .loop .inv .1)
 
 returns : tie.Need-returns Inv-loop μ-loop
 returns c = let l = c .before .before .before .before .before in
     let s = l .before .before .before .before .before in
     let b = c .before .before .before .before .bounding-box in
     let held = rw (c .enum-told .given .1) at (c .before .before .cell-keys .ensures) in
-    packing-far (s .pre .1 .1 .1 .1) (l .before .loop .inv .1) (omega (arith, s .pre .1 .1 .0, l .loop-test .taken)) (b .ensures) held
+    packing-far (s .pre .1) (l .before .loop .inv .1) (omega (arith, s .pre .0 .count, l .loop-test .taken)) (b .ensures) held
 
 pack-cell-requires : tie.Need-pack-cell-requires Inv-loop μ-loop
 pack-cell-requires c κs = let l = c .before .before .before .before .before .before .before .before in
     let s = l .before .before .before .before .before in
     let b = c .before .before .before .before .before .before .before .bounding-box in
     let held = rw (c .before .before .before .more .given .1) at (c .before .before .before .before .before .cell-keys .ensures) in
-    let room = packing-room (s .pre .1 .1 .1 .1) (l .before .loop .inv .1) (omega (arith, s .pre .1 .1 .0, l .loop-test .taken)) (b .ensures) held in
-    ((held .size, (held .few, omega (arith, s .pre .1 .1 .1 .0, l .loop-test .taken))), (room, held .small))
+    let room = packing-room (s .pre .1) (l .before .loop .inv .1) (omega (arith, s .pre .0 .count, l .loop-test .taken)) (b .ensures) held in
+    ((held .size, (held .few, omega (arith, s .pre .0 .few, l .loop-test .taken))), (room, held .small))
 
 add-n : tie.Need-add-n Inv-loop μ-loop
 add-n c = let l = c .before .before .before .before .before .before .before .before .before .before .before in
     let s = l .before .before .before .before .before in
     let b = c .before .before .before .before .before .before .before .before .before .before .bounding-box in
     let held = rw (c .before .before .before .before .before .before .more .given .1) at (c .before .before .before .before .before .before .before .before .cell-keys .ensures) in
-    let room = packing-room (s .pre .1 .1 .1 .1) (l .before .loop .inv .1) (omega (arith, s .pre .1 .1 .0, l .loop-test .taken)) (b .ensures) held in
-    omega (arith, room, packing-length (s .pre .1 .1 .1 .1) (l .before .loop .inv .1), s .good .1 .1 .1 .1 .1 .0 .0)
+    let room = packing-room (s .pre .1) (l .before .loop .inv .1) (omega (arith, s .pre .0 .count, l .loop-test .taken)) (b .ensures) held in
+    omega (arith, room, packing-length (s .pre .1) (l .before .loop .inv .1), s .good .1 .1 .1 .1 .1 .0 .0)
 
 loop-again : tie.Need-loop-again Inv-loop μ-loop
 loop-again c = let l = c .before .before .before .before .before .before .before .before .before .before .before in
     let s = l .before .before .before .before .before in
     let b = c .before .before .before .before .before .before .before .before .before .before .bounding-box in
     let held = rw (c .before .before .before .before .before .before .more .given .1) at (c .before .before .before .before .before .before .before .before .cell-keys .ensures) in
-    (held .size, packing-next (s .pre .1 .1 .1 .1) (l .before .loop .inv .1) (omega (arith, s .pre .1 .1 .0, l .loop-test .taken)) (b .ensures) held (c .before .before .pack-cell .ensures))
+    (held .size, packing-next (s .pre .1) (l .before .loop .inv .1) (omega (arith, s .pre .0 .count, l .loop-test .taken)) (b .ensures) held (c .before .before .pack-cell .ensures))
 
 same-length-2 : tie.Need-same-length-2 Inv-loop μ-loop
-same-length-2 c = packing-length (c .before .before .before .before .before .pre .1 .1 .1 .1) (c .before .loop .inv .1)
+same-length-2 c = packing-length (c .before .before .before .before .before .pre .1) (c .before .loop .inv .1)
 
 returns-2 : tie.Need-returns-2 Inv-loop μ-loop
-returns-2 c = let s = c .before .before .before .before .before in packing-end (s .pre .1 .1 .1 .1) (c .before .loop .inv .1) (omega (arith, s .pre .1 .1 .0, c .loop-test .left))
+returns-2 c = let s = c .before .before .before .before .before in packing-end (s .pre .1) (c .before .loop .inv .1) (omega (arith, s .pre .0 .count, c .loop-test .left))
 
 pub pack-rows-spec : {M : Type 1} → statement M
 pack-rows-spec =

@@ -4,13 +4,13 @@ use Prim.Native.Nat.{_-_}
 use mathlib.Core.Path.{_≡_, refl, ap, _∙_}
 use lib.ListN.{length}
 use Rattle.mesh.specs.Mesh.{meshOf}
-use Rattle.cell_search.proofs.Walk.{Passed, axis-fails, axis-passes, axes-end, Seeking, seek-box, seek-coords, seek-hit, seek-end}
+use Rattle.cell_search.proofs.Walk.{AxesPassed, axis-fails, axis-passes, axes-end, Seeking, seek-box, seek-coords, seek-hit, seek-end}
 use borrow.Author.Needs.{needs}
 use Rattle.cell_search.proofs.find_cell.Statement.{statement}
 use Rattle.cell_search.proofs.find_cell.Tie as tie
 
 abbrev Inv-loop : tie.InvT-loop
-Inv-loop ndim coords corners cells from to x zeta at₀ cell-id cell b i₀ at i = (at ≡ at₀) × Passed ndim b x i
+Inv-loop ndim coords corners cells from to x zeta at₀ cell-id cell b i₀ at i = (at ≡ at₀) × AxesPassed ndim b x i
 
 abbrev μ-loop : tie.MeasureT-loop
 μ-loop ndim coords corners cells from to x zeta at₀ cell-id cell b i₀ at i = ndim - i
@@ -93,6 +93,9 @@ outer-again-2 c = let z = c .before .before in
     let next = seek-coords (o .before .outer .inv) (s .pre .1 .0 .room) (o .outer-test .taken) (b .result) (b .ensures) in-box (z .cell-coords .ensures) (c .before .in-cell .ensures) (c .if2 .left) in
     rw (l .before .loop .inv .0) next
 
+same-length-2 : tie.Need-same-length-2 Inv-loop μ-loop Inv-outer μ-outer
+same-length-2 c = search needs
+
 returns-2 : tie.Need-returns-2 Inv-loop μ-loop Inv-outer μ-outer
 returns-2 c = seek-end (c .before .outer .inv) (c .before .before .before .before .before .before .pre .1 .0 .room) (c .outer-test .left)
 
@@ -124,5 +127,5 @@ find-cell-spec =
     add-at-2
     outer-less-2
     outer-again-2
-    (λ c. search needs)
+    same-length-2
     returns-2)

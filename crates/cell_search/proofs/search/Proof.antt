@@ -1,6 +1,6 @@
 -- `cell_search::search` meets its contract. Assumes nothing.
 -- A law for each way out.
-use mathlib.Core.Path.{_≡_, sym, ap, _∙_}
+use mathlib.Core.Path.{sym, ap, _∙_}
 use Rattle.mesh.specs.Mesh.{Mesh, meshOf}
 use Rattle.grid_cells.specs.Build.{IndexLists, indexLists}
 use Rattle.cell_index.proofs.Sound.{usable}

@@ -7,7 +7,7 @@ use mathlib.Core.List.{map}
 use lib.ListN.{length, take, getD, length-append}
 use lib.Seq.{take-all}
 use borrow.Author.Needs.{needs}
-use Rattle.sorting.specs.Posts.{within}
+use Rattle.sorting.specs.Posts.{markId}
 use Rattle.text.specs.Text.{ascii, entries, listText, Put}
 use Rattle.text.proofs.Laws.{put-nothing, put-both, put-length, entries-more, entries-front, list-length}
 use Rattle.display.proofs.Texts.{names-length, names-at}
@@ -16,7 +16,7 @@ use Rattle.display.proofs.put_ids.Tie as tie
 
 abbrev Inv-loop : tie.InvT-loop
 Inv-loop buffer₀ at ids order n next₀ i₀ t10 buffer next i =
-    (i ≤ n) × Put (entries (ascii ", ") 0 (take i (map (within ids) (take n order)))) buffer₀ next₀ buffer next
+    (i ≤ n) × Put (entries (ascii ", ") 0 (take i (map (markId ids) (take n order)))) buffer₀ next₀ buffer next
 
 abbrev μ-loop : tie.MeasureT-loop
 μ-loop buffer₀ at ids order n next₀ i₀ t10 buffer next i = n - i
@@ -24,7 +24,7 @@ abbrev μ-loop : tie.MeasureT-loop
 put-byte-requires : tie.Need-put-byte-requires Inv-loop μ-loop
 put-byte-requires c κs =
     let a = c .before .before .before .before .args in
-    omega (arith, list-length (map (within (a .ids .now)) (take (a .n) (a .order .now))))
+    omega (arith, list-length (map (markId (a .ids .now)) (take (a .n) (a .order .now))))
 
 loop-holds : tie.Need-loop-holds Inv-loop μ-loop
 unfolding entries
@@ -46,7 +46,7 @@ put-entry-requires : tie.Need-put-entry-requires Inv-loop μ-loop
 put-entry-requires c κs =
     let a = c .before .before .before .before .before .before .before .before .before .before .before .before .before .args in
     let l = c .before .before .before .before .before .loop in
-    let numbers = map (within (a .ids .now)) (take (a .n) (a .order .now)) in
+    let numbers = map (markId (a .ids .now)) (take (a .n) (a .order .now)) in
     let short : l .i < a .n = search needs in
     let listed : l .i < length numbers = rw (names-length (a .ids .now) (a .order .now) (a .n) (c .before .before .before .before .before .before .before .before .before .before .before .before .before .pre .0)) short in
     let this : c .id-at .result ≡ getD numbers (l .i) 0 = c .id-at .ensures ∙ sym (names-at (a .ids .now) (a .order .now) (a .n) (c .before .before .before .before .before .before .before .before .before .before .before .before .before .pre .0) (l .i) short) in
@@ -73,7 +73,7 @@ loop-again c =
     let turn = c .before .before .before .before .before .before .before .before in
     let a = start .args in
     let l = turn .loop in
-    let numbers = map (within (a .ids .now)) (take (a .n) (a .order .now)) in
+    let numbers = map (markId (a .ids .now)) (take (a .n) (a .order .now)) in
     let short : l .i < a .n = search needs in
     let listed : l .i < length numbers = rw (names-length (a .ids .now) (a .order .now) (a .n) (start .pre .0)) short in
     let this : c .before .before .before .id-at .result ≡ getD numbers (l .i) 0 = c .before .before .before .id-at .ensures ∙ sym (names-at (a .ids .now) (a .order .now) (a .n) (start .pre .0) (l .i) short) in
@@ -82,7 +82,7 @@ loop-again c =
 put-byte-requires-2 : tie.Need-put-byte-requires-2 Inv-loop μ-loop
 put-byte-requires-2 c κs =
     let a = c .before .before .before .before .before .before .before .before .before .before .args in
-    let numbers = map (within (a .ids .now)) (take (a .n) (a .order .now)) in
+    let numbers = map (markId (a .ids .now)) (take (a .n) (a .order .now)) in
     omega (arith, list-length numbers, entries-front (ascii ", ") numbers (c .before .before .loop .i), c .before .before .loop .inv .1 .past)
 
 same-length : tie.Need-same-length Inv-loop μ-loop
@@ -93,7 +93,7 @@ unfolding listText
 returns c =
     let a = c .before .before .before .before .before .before .before .before .before .before .before .before .before .args in
     let l = c .before .before .before .before .before .loop in
-    let numbers = map (within (a .ids .now)) (take (a .n) (a .order .now)) in
+    let numbers = map (markId (a .ids .now)) (take (a .n) (a .order .now)) in
     let all : length numbers ≤ l .i = rw (names-length (a .ids .now) (a .order .now) (a .n) (c .before .before .before .before .before .before .before .before .before .before .before .before .before .pre .0)) (search needs) in
     put-both (c .before .before .before .before .before .before .before .before .put-byte .ensures) (put-both (rw (take-all (l .i) numbers all) at (l .inv .1)) (c .before .before .put-byte2 .ensures))
 

@@ -1,5 +1,5 @@
 -- `grid_cells::build_by` meets its contract. Assumes nothing.
-use mathlib.Core.Path.{_≡_, refl, sym, _∙_}
+use mathlib.Core.Path.{_≡_, refl, _∙_}
 use mathlib.Core.Option.{none}
 use Rattle.basics.specs.Refusals.{fault, answer}
 use Rattle.mesh.specs.Mesh.{Mesh, meshOf, cellCount}

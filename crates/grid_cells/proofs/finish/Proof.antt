@@ -1,8 +1,7 @@
 -- `grid_cells::finish` meets its contract. Assumes nothing.
 use native.Mathlib.Omega.{arith}
 use Prim.Native.Nat.{_≤_}
-use mathlib.Core.Path.{_≡_, ap, _∙_}
-use mathlib.Core.Bool.{Bool}
+use mathlib.Core.Path.{_≡_}
 use mathlib.Core.List.{List}
 use lib.ListN.{length}
 use Rattle.mesh.specs.Mesh.{Mesh, Box, meshOf}
@@ -28,7 +27,7 @@ abbrev lists : tie.Start → IndexLists
 lists s = indexLists (s .args .keys .now) (s .args .cells .now) (s .args .large .now)
 
 few : (s : tie.Start) → length (all-boxes s) ≤ 65536
-few s = omega (arith, length-boxes (s .args .grid .ndim) (mesh s), s .pre .count, s .pre .few)
+few s = omega (arith, length-boxes (s .args .grid .ndim) (mesh s), s .pre .fileable .count, s .pre .fileable .few)
 
 -- what the count says of the index
 count : (c : tie.After-count-rows) → let s = start (c .before) in
@@ -36,7 +35,7 @@ count : (c : tie.After-count-rows) → let s = start (c .before) in
 count c = rw (c .before .containers .ensures) at (c .count-rows .ensures)
 
 count-rows-requires : tie.Need-count-rows-requires
-count-rows-requires c κs = let s = start c in rw (c .containers .ensures) (s .pre .keyed, (s .pre .whole, (s .pre .count, s .pre .few)))
+count-rows-requires c κs = let s = start c in rw (c .containers .ensures) (s .pre .fileable)
 
 enum-told : tie.Need-enum-told
 enum-told c = search needs
@@ -58,7 +57,7 @@ file-cells-requires c κs = let e = c .before .before in
     let s = start (k .before) in
     let counted = rw (e .before .before .before .used .given .1) at (count k) in
     let fits = finish-fits (s .args .grid) (s .args .sizes .apart) (s .args .sizes .limit) (all-boxes s) (lists s) (few s) counted (s .pre .large) (e .if1 .left) in
-    rw (k .before .containers .ensures) (s .pre .keyed, (s .pre .whole, (s .pre .count, (s .pre .few, (s .pre .lengths, fits)))))
+    rw (k .before .containers .ensures) (s .pre .fileable, (s .pre .lengths, fits))
 
 write-large-requires : tie.Need-write-large-requires
 write-large-requires c κs = let e = c .before .before .before .before .before .before .before .before in
@@ -66,7 +65,7 @@ write-large-requires c κs = let e = c .before .before .before .before .before .
     let s = start (k .before) in
     let counted = rw (e .before .before .before .used .given .1) at (count k) in
     let room = finish-room (s .args .grid) (s .args .sizes .apart) (s .args .sizes .limit) (all-boxes s) (lists s) (few s) counted (s .pre .large) (e .if1 .left) in
-    (s .pre .whole, (s .pre .count, room))
+    (s .pre .fileable .whole, (s .pre .fileable .count, room))
 
 returns-3 : tie.Need-returns-3
 returns-3 c = let e = c .before .before .before .before .before .before .before .before .before .before .before .before in

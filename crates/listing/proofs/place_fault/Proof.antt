@@ -10,18 +10,6 @@ use Rattle.listing.proofs.Answers.{place-16, place-3, place-15, place-0
 use Rattle.listing.proofs.place_fault.Statement.{statement}
 use Rattle.listing.proofs.place_fault.Tie as tie
 
-is-unfit-requires : tie.Need-is-unfit-requires
-is-unfit-requires c κs = search needs
-
-is-unfit-filter-requires : tie.Need-is-unfit-filter-requires
-is-unfit-filter-requires c κs = search needs
-
-place-ok-requires : tie.Need-place-ok-requires
-place-ok-requires c κs = search needs
-
-filter-ok-requires : tie.Need-filter-ok-requires
-filter-ok-requires c κs = search needs
-
 returns : tie.Need-returns
 returns c =
     let a = c .before .before .before .before .before in
@@ -35,9 +23,6 @@ returns-2 c =
     (sym (ap₂ (λ (x y : Bool). x || y) (c .before .before .before .before .before .is-unfit .ensures) (c .before .before .before .before .is-unfit-filter .ensures)) ∙ c .before .if1 .left)
     (right-lengths (a .args .sheet .ndim) (a .args .place) (a .pre))
     (sym (ap₂ (λ (x y : Bool). x && y) (c .before .before .before .place-ok .ensures) (c .before .before .filter-ok .ensures)) ∙ not-true _ (c .if2 .taken))
-
-is-pinched-requires : tie.Need-is-pinched-requires
-is-pinched-requires c κs = search needs
 
 returns-3 : tie.Need-returns-3
 returns-3 c =
@@ -61,12 +46,12 @@ pub place-fault-spec : {M : Type 1} → statement M
 place-fault-spec =
     tie.close
     (tie.spec
-    is-unfit-requires
-    is-unfit-filter-requires
-    place-ok-requires
-    filter-ok-requires
+    (λ c κs. search needs)
+    (λ c κs. search needs)
+    (λ c κs. search needs)
+    (λ c κs. search needs)
     returns
     returns-2
-    is-pinched-requires
+    (λ c κs. search needs)
     returns-3
     returns-4)

@@ -4,15 +4,9 @@ use Rattle.listing.specs.Place.{askedOf}
 use Rattle.listing.proofs.search_on_cylinder.Statement.{statement}
 use Rattle.listing.proofs.search_on_cylinder.Tie as tie
 
-search-on-place-requires : tie.Need-search-on-place-requires
-search-on-place-requires c κs = search needs
-
-same-length : tie.Need-same-length
-same-length c = search needs
-
 returns : tie.Need-returns
 unfolding askedOf
 returns c = c .before .before .search-on-place .ensures
 
 pub search-on-cylinder-spec : {M : Type 1} → statement M
-search-on-cylinder-spec = tie.close (tie.spec search-on-place-requires same-length returns)
+search-on-cylinder-spec = tie.close (tie.spec (λ c κs. search needs) (λ c. search needs) returns)

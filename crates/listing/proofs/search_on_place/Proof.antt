@@ -1,73 +1,61 @@
 -- `listing::search_on_place` meets its contract. Assumes nothing.
 use mathlib.Core.Path.{_∙_}
 use borrow.Author.Needs.{needs}
-use Rattle.listing.specs.Place.{askedOf}
 use Rattle.listing.proofs.Places.{one-place, no-place, wrong-length}
 use Rattle.listing.proofs.Answers.{as-asked, turned-away, not-there, other-length}
 use Rattle.listing.proofs.search_on_place.Statement.{statement}
 use Rattle.listing.proofs.search_on_place.Tie as tie
 
-made-requires : tie.Need-made-requires
-made-requires c κs = search needs
-
-has-wrong-length-requires : tie.Need-has-wrong-length-requires
-has-wrong-length-requires c κs = search needs
-
-is-dimension-requires : tie.Need-is-dimension-requires
-is-dimension-requires c κs = search needs
-
-search-on-requires : tie.Need-search-on-requires
-search-on-requires c κs = search needs
-
-same-length : tie.Need-same-length
-same-length c = search needs
-
 returns : tie.Need-returns
 returns c =
-    let a = (c .before .before .before .before .before .before .before .before .before .before .before .before .before .before .before .before) .args in
-    as-asked (a .sheet) (a .keys .now) (a .ids .now) (a .xs .now) (a .ys .now) (a .zs .now) (a .used) (askedOf (a .place) (a .a .now) (a .b .now) (a .number)) (a .filter) (a .list .now) _
-    (one-place (c .before .before .before .before .before .before .before .made .ensures) (a .sheet .ndim) (c .before .before .before .before .before .is-dimension .ensures) (c .before .before .before .before .before .before .has-wrong-length .ensures (a .number)) (c .before .before .before .before .if1 .taken)) _ _
-    (c .before .before .search-on .ensures)
-
-library-fault-requires : tie.Need-library-fault-requires
-library-fault-requires c κs = search needs
+    let c2 = c .before .before in
+    let c4 = c2 .before .before in
+    let c5 = c4 .before in
+    let c6 = c5 .before in
+    let c7 = c6 .before in
+    let c16 = c7 .before .before .before .before .before .before .before .before .before in
+    let a = c16 .args in
+    as-asked _ _ _ _ _
+    (one-place (c7 .made .ensures) (a .sheet .ndim) (c5 .is-dimension .ensures) (c6 .has-wrong-length .ensures (a .number)) (c4 .if1 .taken))
+    (c2 .search-on .ensures)
 
 returns-2 : tie.Need-returns-2
-returns-2 c =
-    let a = (c .before .before .before .before .before .before .before .before .before .before .before .before .before .before) .args in
-    turned-away (a .sheet) (a .keys .now) (a .ids .now) (a .xs .now) (a .ys .now) (a .zs .now) (a .used) (askedOf (a .place) (a .a .now) (a .b .now) (a .number)) (a .filter) (a .list .now) _ (c .before .library-fault .ensures) (c .if2 .taken)
-
-is-unfit-requires : tie.Need-is-unfit-requires
-is-unfit-requires c κs = search needs
-
-is-unfit-filter-requires : tie.Need-is-unfit-filter-requires
-is-unfit-filter-requires c κs = search needs
+returns-2 c = turned-away _ _ _ _ _ (c .before .library-fault .ensures) (c .if2 .taken)
 
 returns-3 : tie.Need-returns-3
 returns-3 c =
-    let a = (c .before .before .before .before .before .before .before .before .before .before .before .before .before .before .before .before .before) .args in
-    not-there (a .sheet) (a .keys .now) (a .ids .now) (a .xs .now) (a .ys .now) (a .zs .now) (a .used) (askedOf (a .place) (a .a .now) (a .b .now) (a .number)) (a .filter) (a .list .now) _ (c .before .before .before .before .library-fault .ensures) (c .before .before .before .if2 .left)
+    let a = c .before .before .before .before .before .before .before .before .before .before .before .before .before .before .before .before .before .args in
+    not-there _ _ _ _ _ (c .before .before .before .before .library-fault .ensures) (c .before .before .before .if2 .left)
     (no-place (c .before .before .before .before .before .before .before .before .made .ensures) (a .sheet .ndim) (a .filter) (c .before .before .is-unfit .ensures) (c .before .is-unfit-filter .ensures) (c .if3 .taken))
 
 returns-4 : tie.Need-returns-4
 returns-4 c =
-    let a = (c .before .before .before .before .before .before .before .before .before .before .before .before .before .before .before .before .before) .args in
-    other-length (a .sheet) (a .keys .now) (a .ids .now) (a .xs .now) (a .ys .now) (a .zs .now) (a .used) (askedOf (a .place) (a .a .now) (a .b .now) (a .number)) (a .filter) (a .list .now) _ (c .before .before .before .before .library-fault .ensures) (c .before .before .before .if2 .left)
-    (λ d. wrong-length (c .before .before .before .before .before .before .before .before .made .ensures) (a .sheet .ndim) (a .filter) (c .before .before .is-unfit .ensures) (c .before .is-unfit-filter .ensures) (c .before .before .before .before .before .before .before .has-wrong-length .ensures (a .number)) (c .before .before .before .before .before .before .is-dimension .ensures ∙ d) (c .if3 .left) (c .before .before .before .before .before .if1 .left))
+    let c2 = c .before .before in
+    let c3 = c2 .before in
+    let c4 = c3 .before in
+    let c5 = c4 .before in
+    let c6 = c5 .before in
+    let c7 = c6 .before in
+    let c8 = c7 .before in
+    let c17 = c8 .before .before .before .before .before .before .before .before .before in
+    let a = c17 .args in
+    let wrong = c7 .has-wrong-length .ensures (a .number) in
+    other-length _ _ _ _ _ (c4 .library-fault .ensures) (c3 .if2 .left)
+    (λ d. wrong-length (c8 .made .ensures) (a .sheet .ndim) (a .filter) (c2 .is-unfit .ensures) (c .before .is-unfit-filter .ensures) wrong (c6 .is-dimension .ensures ∙ d) (c .if3 .left) (c5 .if1 .left))
 
 pub search-on-place-spec : {M : Type 1} → statement M
 search-on-place-spec =
     tie.close
     (tie.spec
-    made-requires
-    has-wrong-length-requires
-    is-dimension-requires
-    search-on-requires
-    same-length
+    (λ c κs. search needs)
+    (λ c κs. search needs)
+    (λ c κs. search needs)
+    (λ c κs. search needs)
+    (λ c. search needs)
     returns
-    library-fault-requires
+    (λ c κs. search needs)
     returns-2
-    is-unfit-requires
-    is-unfit-filter-requires
+    (λ c κs. search needs)
+    (λ c κs. search needs)
     returns-3
     returns-4)

@@ -4,12 +4,6 @@ use Rattle.listing.specs.Place.{asked}
 use Rattle.listing.proofs.search_on_plane_xz.Statement.{statement}
 use Rattle.listing.proofs.search_on_plane_xz.Tie as tie
 
-search-on-requires : tie.Need-search-on-requires
-search-on-requires c κs = search needs
-
-same-length : tie.Need-same-length
-same-length c = search needs
-
 returns : tie.Need-returns
 unfolding asked
 returns c = c .before .before .search-on .ensures
@@ -18,6 +12,6 @@ pub search-on-plane-xz-spec : {M : Type 1} → statement M
 search-on-plane-xz-spec =
     tie.close
     (tie.spec
-    search-on-requires
-    same-length
+    (λ c κs. search needs)
+    (λ c. search needs)
     returns)

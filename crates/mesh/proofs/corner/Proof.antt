@@ -1,6 +1,6 @@
 -- `mesh::corner` meets its contract. Assumes nothing.
 use Prim.Native.Nat.{_+_, _*_}
-use mathlib.Core.Path.{_≡_, sym, ap, _∙_}
+use mathlib.Core.Path.{sym, ap, _∙_}
 use mathlib.Core.List.{[]}
 use lib.ListN.{getD}
 use Rattle.mesh.proofs.Whole.{corner-in, corner-names, names-point, point-in, length-point, corner-at}

@@ -1,7 +1,7 @@
 -- `mesh::is_broken` meets its contract. Assumes nothing.
 use native.Mathlib.Omega.{arith}
 use mathlib.Core.Bool.{not}
-use mathlib.Core.Path.{ap, _∙_}
+use mathlib.Core.Path.{ap}
 use borrow.Author.Tests.{eq-eqb, ne-eqb}
 use Rattle.geometry.proofs.Axes.{few-axes}
 use Rattle.mesh.specs.Mesh.{brokenMesh, pointCount}

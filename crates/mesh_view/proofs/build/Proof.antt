@@ -121,7 +121,8 @@ module _ {M : Type 1} (𝓤 : URA M) (H : Heap 𝓤) (A : Atoms 𝓤) (W : Given
         → ent 𝓤 (onEntry 𝓤 H A f.signature κs qs a vals) (WpFn 𝓤 H C Λ code.function (vint w64 n ∷ lent x ∷ lent y ∷ setting s₄ ∷ setting s₅ ∷ setting s₆ ∷ setting s₇ ∷ lent x₈ ∷ lent x₉ ∷ lent x₁₀ ∷ []) Post)
     walk n-fits room₂ room₃ t₄ t₅ t₆ t₇ room₈ room₉ room₁₀ =
         qed W (raw (onEntry 𝓤 H A f.signature κs qs a vals) ∷ []) ∵ enter ! C Λ code.function _ _ $
-        alloc1 ! (λ l₀. alloc1 ! (λ l₁. alloc1 ! (λ l₂. alloc1 ! (λ l₃. alloc1 ! (λ l₄. alloc1 ! (λ l₅. alloc1 ! (λ l₆. alloc1 ! (λ l₇. alloc1 ! (λ l₈. alloc1 ! (λ l₉. alloc1 ! (λ l₁₀. alloc1 ! (λ l₁₁. alloc1 ! (λ l₁₂. alloc1 ! (λ l₁₃. alloc1 ! (λ l₁₄. alloc1 ! (λ l₁₅. alloc1 ! (λ l₁₆. alloc1 ! (λ l₁₇. alloc0 ! $ params1 ! $
+        alloc1 ! (λ l₀. alloc1 ! (λ l₁. alloc1 ! (λ l₂. alloc1 ! (λ l₃. alloc1 ! (λ l₄. alloc1 ! (λ l₅. alloc1 ! (λ l₆. alloc1 ! (λ l₇. alloc1 ! (λ l₈. alloc1 ! (λ l₉. alloc1 ! (λ l₁₀. alloc1 ! (λ l₁₁. alloc1 ! (λ l₁₂.
+        alloc1 ! (λ l₁₃. alloc1 ! (λ l₁₄. alloc1 ! (λ l₁₅. alloc1 ! (λ l₁₆. alloc1 ! (λ l₁₇. alloc0 ! $ params1 ! $
         pass1 ! (init ! 32 refl (tt, record { fits = n-fits })) $ pass1 ! (init ! 30 refl (tt, (tt, (record { fits = room₂ .0 }, tt)))) $ pass1 ! (init ! 28 refl (tt, (tt, (record { fits = room₃ .0 }, tt)))) $ pass1 ! (init ! 26 refl t₄) $
         pass1 ! (init ! 24 refl t₅) $ pass1 ! (init ! 22 refl t₆) $ pass1 ! (init ! 20 refl t₇) $ pass1 ! (init ! 18 refl (tt, (tt, (record { fits = room₈ .0 }, tt)))) $
         pass1 ! (init ! 16 refl (tt, (tt, (record { fits = room₉ .0 }, tt)))) $ pass1 ! (init ! 14 refl (tt, (tt, (record { fits = room₁₀ .0 }, tt)))) $ pass0 ! $
@@ -139,7 +140,9 @@ module _ {M : Type 1} (𝓤 : URA M) (H : Heap 𝓤) (A : Atoms 𝓤) (W : Given
         assigns ! (agg ! (and-then ! (load ! (from ! (stop !)) (look ! 6 refl)) (and-then ! (load ! (from ! (fld ! refl (stop !))) (look-in ! 18 (sub ! 1 refl (whole !)))) (no-more !)))) (from ! (stop !)) (init ! 4 refl (tt, (tt, (record { fits = room₁₀ .0 }, tt)))) $
         group ! 4 $ use1 W (raw (Callee 𝓤 H A mem run .pre (to v))) (handed 𝓤 H A W (α κs) (β κs) d X Y Z Others m v) $
         calls-at ! fm (Callee 𝓤 H A mem run) known (to v)
-        (and-then ! (load ! (from ! (stop !)) (look ! 13 refl)) (and-then ! (load ! (from ! (stop !)) (look ! 27 refl)) (and-then ! (load ! (from ! (stop !)) (look ! 25 refl)) (and-then ! (load ! (from ! (stop !)) (look ! 23 refl)) (and-then ! (load ! (from ! (stop !)) (look ! 21 refl)) (and-then ! (load ! (from ! (stop !)) (look ! 9 refl)) (and-then ! (load ! (from ! (stop !)) (look ! 5 refl)) (and-then ! (load ! (from ! (stop !)) (look ! 1 refl)) (no-more !))))))))) (λ u.
+        (and-then ! (load ! (from ! (stop !)) (look ! 13 refl)) (and-then ! (load ! (from ! (stop !)) (look ! 27 refl)) (and-then ! (load ! (from ! (stop !)) (look ! 25 refl))
+        (and-then ! (load ! (from ! (stop !)) (look ! 23 refl)) (and-then ! (load ! (from ! (stop !)) (look ! 21 refl)) (and-then ! (load ! (from ! (stop !)) (look ! 9 refl))
+        (and-then ! (load ! (from ! (stop !)) (look ! 5 refl)) (and-then ! (load ! (from ! (stop !)) (look ! 1 refl)) (no-more !))))))))) (λ u.
         answered ! tt S.the-row P (Ensured 𝓤 H A W 5 κs ss ks (a .1 .1 .1) S.the-row Says 1) u (λ r is.
         land ! (from ! (stop !)) (init ! 37 refl (EL.lawful S.the-type S′.the-laws 𝓤 H A W tt .typed r _ is .0)) $
         returns ! (look ! 37 refl) $ move ! (37 ∷ 38 ∷ 35 ∷ 36 ∷ 33 ∷ 34 ∷ 31 ∷ 32 ∷ 29 ∷ 30 ∷ 27 ∷ 28 ∷ 25 ∷ 26 ∷ 23 ∷ 24 ∷ 21 ∷ 22 ∷ 19 ∷ 20 ∷ 17 ∷ 18 ∷ 15 ∷ 16 ∷ 13 ∷ 14 ∷ 11 ∷ 12 ∷ 9 ∷ 10 ∷ 7 ∷ 8 ∷ 5 ∷ 6 ∷ 3 ∷ 4 ∷ []) $

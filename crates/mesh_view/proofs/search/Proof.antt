@@ -130,7 +130,8 @@ module _ {M : Type 1} (𝓤 : URA M) (H : Heap 𝓤) (A : Atoms 𝓤) (W : Given
         qed W (raw (onEntry 𝓤 H A f.signature κs qs a vals) ∷ []) ∵ enter ! C Λ code.function _ _ $
         alloc1 ! (λ l₀. alloc1 ! (λ l₁. alloc1 ! (λ l₂. alloc1 ! (λ l₃. alloc1 ! (λ l₄. alloc1 ! (λ l₅. alloc1 ! (λ l₆. alloc1 ! (λ l₇. alloc1 ! (λ l₈. alloc1 ! (λ l₉. alloc1 ! (λ l₁₀. alloc1 ! (λ l₁₁. alloc0 ! $ params1 ! $
         pass1 ! (init ! 20 refl gt) $ pass1 ! (init ! 18 refl (tt, (tt, (record { fits = room₂ .0 }, tt)))) $ pass1 ! (init ! 16 refl (tt, (tt, (record { fits = room₃ .0 }, tt)))) $ pass1 ! (init ! 14 refl (tt, (tt, (record { fits = room₄ .0 }, tt)))) $
-        pass1 ! (init ! 12 refl (tt, (tt, (record { fits = room₅ .0 }, tt)))) $ pass1 ! (init ! 10 refl (tt, (tt, (record { fits = room₆ .0 }, tt)))) $ pass1 ! (init ! 8 refl (tt, (tt, (record { fits = room₇ .0 }, tt)))) $ pass1 ! (init ! 6 refl (tt, (tt, (record { fits = room₈ .0 }, tt)))) $ pass0 ! $
+        pass1 ! (init ! 12 refl (tt, (tt, (record { fits = room₅ .0 }, tt)))) $ pass1 ! (init ! 10 refl (tt, (tt, (record { fits = room₆ .0 }, tt)))) $ pass1 !
+        (init ! 8 refl (tt, (tt, (record { fits = room₇ .0 }, tt)))) $ pass1 ! (init ! 6 refl (tt, (tt, (record { fits = room₈ .0 }, tt)))) $ pass0 ! $
         -- [_11; …; _1; …; room for _0; …; what there is on entry]: local i at 2 · (11 − i)
         move ! (24 ∷ []) $ use1 W (raw (New 𝓤 H A mem run .pre to-new) ⊛ (raw Z ⊛ ‵ Others)) (lends-after 𝓤 H A W (α κs) (β κs) d X Y Z Index Lists n-fits) $ split ! $
         calls-at ! fm (New 𝓤 H A mem run) known-new to-new (and-then ! (load ! (from ! (fld ! refl (stop !))) (look-in ! 22 (sub ! 0 refl (whole !)))) (and-then ! (load ! (from ! (stop !)) (look ! 20 refl)) (and-then ! (load ! (from ! (stop !)) (look ! 18 refl)) (no-more !)))) (λ v.
@@ -141,7 +142,9 @@ module _ {M : Type 1} (𝓤 : URA M) (H : Heap 𝓤) (A : Atoms 𝓤) (W : Given
         assigns ! (agg ! (and-then ! (load ! (from ! (stop !)) (look ! 6 refl)) (and-then ! (load ! (from ! (fld ! refl (stop !))) (look-in ! 10 (sub ! 1 refl (whole !)))) (no-more !)))) (from ! (stop !)) (init ! 4 refl (tt, (tt, (record { fits = room₈ .0 }, tt)))) $
         group ! 4 $ use1 W (raw (Callee 𝓤 H A mem run .pre (to v))) (handed 𝓤 H A W (α κs) (β κs) d X Y Z Others m v) $
         calls-at ! fm (Callee 𝓤 H A mem run) known (to v)
-        (and-then ! (load ! (from ! (stop !)) (look ! 5 refl)) (and-then ! (load ! (from ! (stop !)) (look ! 21 refl)) (and-then ! (load ! (from ! (stop !)) (look ! 15 refl)) (and-then ! (load ! (from ! (stop !)) (look ! 13 refl)) (and-then ! (load ! (from ! (stop !)) (look ! 11 refl)) (and-then ! (load ! (from ! (stop !)) (look ! 9 refl)) (and-then ! (load ! (from ! (stop !)) (look ! 1 refl)) (no-more !)))))))) (λ u.
+        (and-then ! (load ! (from ! (stop !)) (look ! 5 refl)) (and-then ! (load ! (from ! (stop !)) (look ! 21 refl)) (and-then ! (load ! (from ! (stop !)) (look ! 15 refl))
+        (and-then ! (load ! (from ! (stop !)) (look ! 13 refl)) (and-then ! (load ! (from ! (stop !)) (look ! 11 refl)) (and-then ! (load ! (from ! (stop !)) (look ! 9 refl))
+        (and-then ! (load ! (from ! (stop !)) (look ! 1 refl)) (no-more !)))))))) (λ u.
         answered ! tt S.the-row P (Ensured 𝓤 H A W 7 κs ss ks (a .1 .1 .1) S.the-row Says 2) u (λ r is.
         land ! (from ! (stop !)) (init ! 25 refl (EL.lawful S.the-type S′.the-laws 𝓤 H A W tt .typed r _ is .0)) $
         returns ! (look ! 25 refl) $ move ! (25 ∷ 26 ∷ 23 ∷ 24 ∷ 21 ∷ 22 ∷ 19 ∷ 20 ∷ 17 ∷ 18 ∷ 15 ∷ 16 ∷ 13 ∷ 14 ∷ 11 ∷ 12 ∷ 9 ∷ 10 ∷ 7 ∷ 8 ∷ 5 ∷ 6 ∷ 3 ∷ 4 ∷ []) $
@@ -153,8 +156,22 @@ search-meets : {M : Type 1} (𝓤 : URA M) (H : Heap 𝓤) (A : Atoms 𝓤) (W :
 search-meets 𝓤 H A W mem run 𝓣 known-new known =
     meets 𝓤 H A f.signature (f.spec 𝓤 H A mem run) (WpFn 𝓤 H (𝓣 .C) (𝓣 .Λ) code.function)
     (λ κs. (LL.vals N.the-type N′.the-laws, (slice-vals, (slice-vals, (slice-vals, (slice-vals, (slice-vals, (slice-vals, (slice-vals, tt)))))))))
-    (λ κs. let κ = κs .1 .1 in
-    (LL.tells N.the-type N′.the-laws, (shr-slice-tells (named 0) (κs .0) f64, (shr-slice-tells (named 1) (κs .1 .0) u32, (shr-slice-tells (named 2) (κ .0) u64, (shr-slice-tells (named 3) (κ .1 .0) u64, (shr-slice-tells (named 4) (κ .1 .1 .0) u64, (shr-slice-tells (named 5) (κ .1 .1 .1 .0) f64, (mut-slice-tells (named 6) (κ .1 .1 .1 .1 .0) f64, tt)))))))))
+    (λ κs. let κ = κs .1 .1 in (
+      LL.tells N.the-type N′.the-laws,
+      (
+        shr-slice-tells (named 0) (κs .0) f64,
+        (
+          shr-slice-tells (named 1) (κs .1 .0) u32,
+          (
+            shr-slice-tells (named 2) (κ .0) u64,
+            (
+              shr-slice-tells (named 3) (κ .1 .0) u64,
+              (shr-slice-tells (named 4) (κ .1 .1 .0) u64, (shr-slice-tells (named 5) (κ .1 .1 .1 .0) f64, (mut-slice-tells (named 6) (κ .1 .1 .1 .1 .0) f64, tt))),
+            ),
+          ),
+        ),
+      ),
+    ))
     (λ κs qs bounds a gh are. let b = a .1 .1 .1 in let bre = are .1 .1 .1 in
     via 𝓤 _ (fst∗ 𝓤 _ (emp 𝓤)) (walk 𝓤 H A W mem run κs qs (a .0) (a .1 .0) (a .1 .1 .0) (b .0) (b .1 .0) (b .1 .1 .0) (b .1 .1 .1 .0) (b .1 .1 .1 .1 .0) (𝓣 .C) (𝓣 .Λ) (fmOf 𝓤 H (W .laws) 𝓣) known-new known
     (LL.lawful N.the-type N′.the-laws 𝓤 H A W .typed (a .0) _ (are .0) .0) (LL.owed N.the-type N′.the-laws (a .0) _ (are .0) .0 .1) (are .1 .0 .0 .1) (are .1 .1 .0 .0 .1)

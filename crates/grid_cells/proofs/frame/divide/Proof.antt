@@ -13,7 +13,8 @@ returns : tie.Need-returns
 unfolding cellDivisions
 returns c =
     let a = c .before .before .before .before .args in
-    rw (← take-zip (λ (y x : Float). truncate (ceilOf ((y ⊖ x) ⊘ a .side-length))) (a .ndim) (a .xmax .x ∷ a .xmax .y ∷ a .xmax .z ∷ []) (a .xmin .x ∷ a .xmin .y ∷ a .xmin .z ∷ []), ← c .before .before .before .divisions-along .ensures, ← c .before .before .divisions-along2 .ensures, ← c .before .divisions-along3 .ensures)
+    let axes = take-zip (λ (y x : Float). truncate (ceilOf ((y ⊖ x) ⊘ a .side-length))) (a .ndim) (a .xmax .x ∷ a .xmax .y ∷ a .xmax .z ∷ []) (a .xmin .x ∷ a .xmin .y ∷ a .xmin .z ∷ []) in
+    rw (← axes, ← c .before .before .before .divisions-along .ensures, ← c .before .before .divisions-along2 .ensures, ← c .before .divisions-along3 .ensures)
     (c .in-use .ensures)
 
 pub divide-spec : {M : Type 1} → statement M

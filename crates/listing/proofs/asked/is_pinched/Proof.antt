@@ -4,30 +4,6 @@ use Rattle.listing.specs.Place.{asked, pinched}
 use Rattle.listing.proofs.asked.is_pinched.Statement.{statement}
 use Rattle.listing.proofs.asked.is_pinched.Tie as tie
 
-enum-known-place : tie.Need-enum-known-place
-enum-known-place c = search needs
-
-too-close-requires : tie.Need-too-close-requires
-too-close-requires c κs = search needs
-
-enum-told : tie.Need-enum-told
-enum-told c = search needs
-
-enum-known-place-2 : tie.Need-enum-known-place-2
-enum-known-place-2 c = search needs
-
-too-close-requires-2 : tie.Need-too-close-requires-2
-too-close-requires-2 c κs = search needs
-
-enum-told-2 : tie.Need-enum-told-2
-enum-told-2 c = search needs
-
-enum-told-3 : tie.Need-enum-told-3
-enum-told-3 c = search needs
-
-enum-told-4 : tie.Need-enum-told-4
-enum-told-4 c = search needs
-
 returns : tie.Need-returns
 unfolding asked pinched
 returns c = rw (c .before .before .place .given .1, c .too-close .ensures)
@@ -56,14 +32,14 @@ pub is-pinched-spec : {M : Type 1} → statement M
 is-pinched-spec =
     tie.close
     (tie.spec
-    enum-known-place
-    too-close-requires
-    enum-told
-    enum-known-place-2
-    too-close-requires-2
-    enum-told-2
-    enum-told-3
-    enum-told-4
+    (λ c. search needs)
+    (λ c κs. search needs)
+    (λ c. search needs)
+    (λ c. search needs)
+    (λ c κs. search needs)
+    (λ c. search needs)
+    (λ c. search needs)
+    (λ c. search needs)
     returns
     returns-2
     returns-3

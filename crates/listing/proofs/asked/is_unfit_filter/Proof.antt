@@ -4,12 +4,6 @@ use Rattle.listing.specs.Place.{unfitFilter}
 use Rattle.listing.proofs.asked.is_unfit_filter.Statement.{statement}
 use Rattle.listing.proofs.asked.is_unfit_filter.Tie as tie
 
-enum-told : tie.Need-enum-told
-enum-told c = search needs
-
-enum-known-filter : tie.Need-enum-known-filter
-enum-known-filter c = search needs
-
 returns : tie.Need-returns
 unfolding unfitFilter
 returns c = rw (c .enum-told .given .1)
@@ -19,4 +13,4 @@ unfolding unfitFilter
 returns-2 c = rw (c .before .filter .given .1)
 
 pub is-unfit-filter-spec : {M : Type 1} → statement M
-is-unfit-filter-spec = tie.close (tie.spec enum-told enum-known-filter returns returns-2)
+is-unfit-filter-spec = tie.close (tie.spec (λ c. search needs) (λ c. search needs) returns returns-2)

@@ -4,26 +4,11 @@ use Rattle.listing.proofs.Places.{made-line, made-circle, made-cylinder
 use Rattle.listing.proofs.asked.made.Statement.{statement}
 use Rattle.listing.proofs.asked.made.Tie as tie
 
-new-requires : tie.Need-new-requires
-new-requires c κs = search needs
-
-new-requires-2 : tie.Need-new-requires-2
-new-requires-2 c κs = search needs
-
 returns : tie.Need-returns
 returns c = made-line _ _ _ _ (c .before .before .if1 .taken) _ _ (c .before .new .ensures) (c .new2 .ensures)
 
-new-requires-3 : tie.Need-new-requires-3
-new-requires-3 c κs = search needs
-
 returns-2 : tie.Need-returns-2
 returns-2 c = made-circle _ _ (c .before .before .before .before .before .args .b .now) _ (c .before .if2 .taken) _ (c .new3 .ensures)
-
-new-requires-4 : tie.Need-new-requires-4
-new-requires-4 c κs = search needs
-
-new-requires-5 : tie.Need-new-requires-5
-new-requires-5 c κs = search needs
 
 returns-3 : tie.Need-returns-3
 returns-3 c = made-cylinder _ _ _ _ (c .before .before .if3 .taken) _ _ (c .before .new4 .ensures) (c .new5 .ensures)
@@ -41,13 +26,13 @@ pub made-spec : {M : Type 1} → statement M
 made-spec =
     tie.close
     (tie.spec
-    new-requires
-    new-requires-2
+    (λ c κs. search needs)
+    (λ c κs. search needs)
     returns
-    new-requires-3
+    (λ c κs. search needs)
     returns-2
-    new-requires-4
-    new-requires-5
+    (λ c κs. search needs)
+    (λ c κs. search needs)
     returns-3
     returns-4
     returns-5

@@ -4,54 +4,6 @@ use Rattle.listing.specs.Place.{asked, placeLimits}
 use Rattle.listing.proofs.asked.place_ok.Statement.{statement}
 use Rattle.listing.proofs.asked.place_ok.Tie as tie
 
-enum-known-place : tie.Need-enum-known-place
-enum-known-place c = search needs
-
-position-ok-requires : tie.Need-position-ok-requires
-position-ok-requires c κs = search needs
-
-position-ok-requires-2 : tie.Need-position-ok-requires-2
-position-ok-requires-2 c κs = search needs
-
-enum-known-place-2 : tie.Need-enum-known-place-2
-enum-known-place-2 c = search needs
-
-position-ok-requires-3 : tie.Need-position-ok-requires-3
-position-ok-requires-3 c κs = search needs
-
-is-coordinate-requires : tie.Need-is-coordinate-requires
-is-coordinate-requires c κs = search needs
-
-enum-known-place-3 : tie.Need-enum-known-place-3
-enum-known-place-3 c = search needs
-
-position-ok-requires-4 : tie.Need-position-ok-requires-4
-position-ok-requires-4 c κs = search needs
-
-position-ok-requires-5 : tie.Need-position-ok-requires-5
-position-ok-requires-5 c κs = search needs
-
-is-coordinate-requires-2 : tie.Need-is-coordinate-requires-2
-is-coordinate-requires-2 c κs = search needs
-
-enum-known-place-4 : tie.Need-enum-known-place-4
-enum-known-place-4 c = search needs
-
-is-coordinate-requires-3 : tie.Need-is-coordinate-requires-3
-is-coordinate-requires-3 c κs = search needs
-
-enum-known-place-5 : tie.Need-enum-known-place-5
-enum-known-place-5 c = search needs
-
-is-coordinate-requires-4 : tie.Need-is-coordinate-requires-4
-is-coordinate-requires-4 c κs = search needs
-
-enum-known-place-6 : tie.Need-enum-known-place-6
-enum-known-place-6 c = search needs
-
-is-coordinate-requires-5 : tie.Need-is-coordinate-requires-5
-is-coordinate-requires-5 c κs = search needs
-
 returns : tie.Need-returns
 unfolding asked placeLimits
 returns c = rw (c .before .before .before .place .given .1, c .before .position-ok .ensures, c .position-ok2 .ensures)
@@ -80,22 +32,22 @@ pub place-ok-spec : {M : Type 1} → statement M
 place-ok-spec =
     tie.close
     (tie.spec
-    enum-known-place
-    position-ok-requires
-    position-ok-requires-2
-    enum-known-place-2
-    position-ok-requires-3
-    is-coordinate-requires
-    enum-known-place-3
-    position-ok-requires-4
-    position-ok-requires-5
-    is-coordinate-requires-2
-    enum-known-place-4
-    is-coordinate-requires-3
-    enum-known-place-5
-    is-coordinate-requires-4
-    enum-known-place-6
-    is-coordinate-requires-5
+    (λ c. search needs)
+    (λ c κs. search needs)
+    (λ c κs. search needs)
+    (λ c. search needs)
+    (λ c κs. search needs)
+    (λ c κs. search needs)
+    (λ c. search needs)
+    (λ c κs. search needs)
+    (λ c κs. search needs)
+    (λ c κs. search needs)
+    (λ c. search needs)
+    (λ c κs. search needs)
+    (λ c. search needs)
+    (λ c κs. search needs)
+    (λ c. search needs)
+    (λ c κs. search needs)
     returns
     returns-2
     returns-3

@@ -9,15 +9,6 @@ use Rattle.listing.specs.Place.{passes, unfitFilter}
 use Rattle.listing.proofs.near.keeps.Statement.{statement}
 use Rattle.listing.proofs.near.keeps.Tie as tie
 
-enum-told : tie.Need-enum-told
-enum-told c = search needs
-
-enum-known-filter : tie.Need-enum-known-filter
-enum-known-filter c = search needs
-
-axis-requires : tie.Need-axis-requires
-axis-requires c κs = search needs
-
 returns : tie.Need-returns
 unfolding passes
 returns c = rw (c .enum-told .given .1)
@@ -29,4 +20,4 @@ returns-2 c =
     rw (c .before .before .filter .given .1, axis-entry _ _ (c .before .before .before .before .args .x) (c .before .before .before .before .pre .0) (leb-false _ _ fit), c .axis .ensures)
 
 pub keeps-spec : {M : Type 1} → statement M
-keeps-spec = tie.close (tie.spec enum-told enum-known-filter axis-requires returns returns-2)
+keeps-spec = tie.close (tie.spec (λ c. search needs) (λ c. search needs) (λ c κs. search needs) returns returns-2)

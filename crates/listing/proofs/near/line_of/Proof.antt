@@ -3,42 +3,6 @@ use borrow.Author.Needs.{needs}
 use Rattle.listing.proofs.near.line_of.Statement.{statement}
 use Rattle.listing.proofs.near.line_of.Tie as tie
 
-enum-known-place : tie.Need-enum-known-place
-enum-known-place c = search needs
-
-new-requires : tie.Need-new-requires
-new-requires c κs = search needs
-
-enum-known-place-2 : tie.Need-enum-known-place-2
-enum-known-place-2 c = search needs
-
-new-requires-2 : tie.Need-new-requires-2
-new-requires-2 c κs = search needs
-
-enum-known-place-3 : tie.Need-enum-known-place-3
-enum-known-place-3 c = search needs
-
-new-requires-3 : tie.Need-new-requires-3
-new-requires-3 c κs = search needs
-
-enum-told : tie.Need-enum-told
-enum-told c = search needs
-
-new-requires-4 : tie.Need-new-requires-4
-new-requires-4 c κs = search needs
-
-enum-told-2 : tie.Need-enum-told-2
-enum-told-2 c = search needs
-
-new-requires-5 : tie.Need-new-requires-5
-new-requires-5 c κs = search needs
-
-enum-told-3 : tie.Need-enum-told-3
-enum-told-3 c = search needs
-
-new-requires-6 : tie.Need-new-requires-6
-new-requires-6 c κs = search needs
-
 returns : tie.Need-returns
 returns c = rw (c .before .before .place .given .1) (c .new .ensures)
 
@@ -61,18 +25,18 @@ pub line-of-spec : {M : Type 1} → statement M
 line-of-spec =
     tie.close
     (tie.spec
-    enum-known-place
-    new-requires
-    enum-known-place-2
-    new-requires-2
-    enum-known-place-3
-    new-requires-3
-    enum-told
-    new-requires-4
-    enum-told-2
-    new-requires-5
-    enum-told-3
-    new-requires-6
+    (λ c. search needs)
+    (λ c κs. search needs)
+    (λ c. search needs)
+    (λ c κs. search needs)
+    (λ c. search needs)
+    (λ c κs. search needs)
+    (λ c. search needs)
+    (λ c κs. search needs)
+    (λ c. search needs)
+    (λ c κs. search needs)
+    (λ c. search needs)
+    (λ c κs. search needs)
     returns
     returns-2
     returns-3

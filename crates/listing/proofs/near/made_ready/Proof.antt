@@ -6,9 +6,6 @@ use borrow.Author.Needs.{needs}
 use Rattle.listing.proofs.near.made_ready.Statement.{statement}
 use Rattle.listing.proofs.near.made_ready.Tie as tie
 
-line-of-requires : tie.Need-line-of-requires
-line-of-requires c κs = search needs
-
 float-from-bits-window-of : tie.Need-float-from-bits-window-of
 unfolding nanBits
 float-from-bits-window-of c = tt
@@ -39,7 +36,7 @@ pub made-ready-spec : {M : Type 1} → statement M
 made-ready-spec =
     tie.close
     (tie.spec
-    line-of-requires
+    (λ c κs. search needs)
     float-from-bits-window-of
     window-of-requires
     window-of-requires-2

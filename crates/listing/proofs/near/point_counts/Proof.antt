@@ -4,8 +4,8 @@ use mathlib.Core.Path.{_≡_, ap, ap₂, _∙_}
 use lib.Ieee.{Float, neg}
 use Rattle.geometry.specs.Position.{coords}
 use Rattle.listing.specs.Place.{asked, placeDistance, pointNear}
-use Rattle.listing.specs.Window.{lies}
-use Rattle.listing.proofs.Windows.{both-sides}
+use Rattle.windows.specs.Window.{lies}
+use Rattle.windows.proofs.Tellings.{both-sides}
 use borrow.Author.Needs.{needs}
 use Rattle.listing.proofs.near.point_counts.Statement.{statement}
 use Rattle.listing.proofs.near.point_counts.Tie as tie
@@ -14,9 +14,6 @@ point-lies-requires : tie.Need-point-lies-requires
 point-lies-requires c κs =
     let a = c .before .before in
     (a .pre .0, (a .pre .1 .0, (a .pre .1 .1 .1 .line, a .pre .1 .1 .1 .for-point)))
-
-keeps-requires : tie.Need-keeps-requires
-keeps-requires c κs = search needs
 
 returns : tie.Need-returns
 unfolding pointNear
@@ -32,4 +29,4 @@ returns c =
     ap₂ (λ (x y : Bool). x && y) n (c .keeps .ensures)
 
 pub point-counts-spec : {M : Type 1} → statement M
-point-counts-spec = tie.close (tie.spec point-lies-requires keeps-requires returns)
+point-counts-spec = tie.close (tie.spec point-lies-requires (λ c κs. search needs) returns)

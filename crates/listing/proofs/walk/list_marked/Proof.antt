@@ -8,32 +8,35 @@ use Rattle.listing.proofs.walk.list_marked.Tie as tie
 select-by-requires : tie.Need-select-by-requires
 select-by-requires c κs = (c .before .before .before .before .pre .0, c .before .before .before .before .pre .1)
 
-same-length : tie.Need-same-length
-same-length c = search needs
-
 returns : tie.Need-returns
-returns c = out-short (c .before .before .before .before .before .before .before .before .args .ids .now) _ _ _ (omega (arith, c .before .before .before .select-by .ensures .upto, c .before .before .before .select-by .kept .0, c .before .before .before .before .before .before .before .before .pre .0)) (c .before .before .before .select-by .ensures .by-key) (c .before .before .before .before .before .before .before .before .args .list .now) (c .if1 .taken)
+returns c =
+    let c3 = c .before .before .before in
+    let c8 = c3 .before .before .before .before .before in
+    out-short (c8 .args .ids .now) _ _ _ (omega (arith, c3 .select-by .ensures .upto, c3 .select-by .kept .0, c8 .pre .0)) (c3 .select-by .ensures .by-key) (c8 .args .list .now) (c .if1 .taken)
 
 write-ids-requires : tie.Need-write-ids-requires
-write-ids-requires c κs = ((omega (arith, c .before .before .before .before .before .select-by .ensures .upto, c .before .before .before .before .before .select-by .kept .0, c .before .before .before .before .before .before .before .before .before .before .pre .0)), (c .before .before .if1 .left, c .before .before .before .before .before .select-by .ensures .below))
-
-same-length-2 : tie.Need-same-length-2
-same-length-2 c = search needs
-
-same-length-3 : tie.Need-same-length-3
-same-length-3 c = search needs
+write-ids-requires c κs =
+    let c2 = c .before .before in
+    let c5 = c2 .before .before .before in
+    let c10 = c5 .before .before .before .before .before in
+    ((omega (arith, c5 .select-by .ensures .upto, c5 .select-by .kept .0, c10 .pre .0)), (c2 .if1 .left, c5 .select-by .ensures .indices))
 
 returns-2 : tie.Need-returns-2
-returns-2 c = out-long (c .before .before .before .before .before .before .before .before .before .before .before .before .before .args .ids .now) _ _ _ (omega (arith, c .before .before .before .before .before .before .before .before .select-by .ensures .upto, c .before .before .before .before .before .before .before .before .select-by .kept .0, c .before .before .before .before .before .before .before .before .before .before .before .before .before .pre .0)) (c .before .before .before .before .before .before .before .before .select-by .ensures .by-key) (c .before .before .before .before .before .before .before .before .before .before .before .before .before .args .list .now) _ (c .before .before .before .before .before .if1 .left) (c .before .before .write-ids .ensures)
+returns-2 c =
+    let c2 = c .before .before in
+    let c5 = c2 .before .before .before in
+    let c8 = c5 .before .before .before in
+    let c13 = c8 .before .before .before .before .before in
+    out-long (c13 .args .ids .now) _ _ _ (omega (arith, c8 .select-by .ensures .upto, c8 .select-by .kept .0, c13 .pre .0)) (c8 .select-by .ensures .by-key) (c13 .args .list .now) _ (c5 .if1 .left) (c2 .write-ids .ensures)
 
 pub list-marked-spec : {M : Type 1} → statement M
 list-marked-spec =
     tie.close
     (tie.spec
     select-by-requires
-    same-length
+    (λ c. search needs)
     returns
     write-ids-requires
-    same-length-2
-    same-length-3
+    (λ c. search needs)
+    (λ c. search needs)
     returns-2)

@@ -100,7 +100,8 @@ module _ {M : Type 1} (𝓤 : URA M) (H : Heap 𝓤) (A : Atoms 𝓤) (W : Given
         → ent 𝓤 (onEntry 𝓤 H A f.signature κs qs a vals) (WpFn 𝓤 H C Λ code.function (mach ∷ setting s₂ ∷ setting s₃ ∷ setting s₄ ∷ setting s₅ ∷ lent x₆ ∷ lent x₇ ∷ lent x₈ ∷ []) Post)
     walk wt t₂ t₃ t₄ t₅ room₆ room₇ room₈ =
         qed W (raw (onEntry 𝓤 H A f.signature κs qs a vals) ∷ []) ∵ enter ! C Λ code.function _ _ $
-        alloc1 ! (λ l0. alloc1 ! (λ l1. alloc1 ! (λ l2. alloc1 ! (λ l3. alloc1 ! (λ l4. alloc1 ! (λ l5. alloc1 ! (λ l6. alloc1 ! (λ l7. alloc1 ! (λ l8. alloc1 ! (λ l9. alloc1 ! (λ l10. alloc1 ! (λ l11. alloc1 ! (λ l12. alloc1 ! (λ l13. alloc1 ! (λ l14. alloc1 ! (λ l15. alloc1 ! (λ l16. alloc1 ! (λ l17. alloc0 ! $ params1 ! $ pass1 ! (init ! 32 refl wt) $
+        alloc1 ! (λ l0. alloc1 ! (λ l1. alloc1 ! (λ l2. alloc1 ! (λ l3. alloc1 ! (λ l4. alloc1 ! (λ l5. alloc1 ! (λ l6. alloc1 ! (λ l7. alloc1 ! (λ l8. alloc1 ! (λ l9. alloc1 ! (λ l10. alloc1 ! (λ l11. alloc1 ! (λ l12.
+        alloc1 ! (λ l13. alloc1 ! (λ l14. alloc1 ! (λ l15. alloc1 ! (λ l16. alloc1 ! (λ l17. alloc0 ! $ params1 ! $ pass1 ! (init ! 32 refl wt) $
         pass1 ! (init ! 30 refl t₂) $ pass1 ! (init ! 28 refl t₃) $ pass1 ! (init ! 26 refl t₄) $ pass1 ! (init ! 24 refl t₅) $
         pass1 ! (init ! 22 refl (tt, (tt, (record { fits = room₆ .0 }, tt)))) $ pass1 ! (init ! 20 refl (tt, (tt, (record { fits = room₇ .0 }, tt)))) $ pass1 ! (init ! 18 refl (tt, (tt, (record { fits = room₈ .0 }, tt)))) $ pass0 ! $
         -- [_17; …; _1; …; room for _0; …; what there is on entry]: local i at 2 · (17 − i)
@@ -115,7 +116,10 @@ module _ {M : Type 1} (𝓤 : URA M) (H : Heap 𝓤) (A : Atoms 𝓤) (W : Given
         assigns ! (agg ! (and-then ! (load ! (from ! (stop !)) (look ! 2 refl)) (and-then ! (load ! (from ! (fld ! refl (stop !))) (look-in ! 18 (sub ! 1 refl (whole !)))) (no-more !)))) (from ! (stop !)) (init ! 0 refl (tt, (tt, (record { fits = room₈ .0 }, tt)))) $
         move ! (36 ∷ []) $ use1 W (raw (Callee 𝓤 H A mem run .pre to)) (apart 𝓤 H A W (α κs) (β κs) d P Others) $
         calls-at ! fm (Callee 𝓤 H A mem run) known to
-        (and-then ! (load ! (from ! (stop !)) (look ! 17 refl)) (and-then ! (load ! (from ! (stop !)) (look ! 15 refl)) (and-then ! (load ! (from ! (stop !)) (look ! 13 refl)) (and-then ! (load ! (from ! (stop !)) (look ! 31 refl)) (and-then ! (load ! (from ! (stop !)) (look ! 29 refl)) (and-then ! (load ! (from ! (stop !)) (look ! 27 refl)) (and-then ! (load ! (from ! (stop !)) (look ! 25 refl)) (and-then ! (load ! (from ! (stop !)) (look ! 9 refl)) (and-then ! (load ! (from ! (stop !)) (look ! 5 refl)) (and-then ! (load ! (from ! (stop !)) (look ! 1 refl)) (no-more !))))))))))) (λ u.
+        (and-then ! (load ! (from ! (stop !)) (look ! 17 refl)) (and-then ! (load ! (from ! (stop !)) (look ! 15 refl)) (and-then ! (load ! (from ! (stop !)) (look ! 13 refl))
+        (and-then ! (load ! (from ! (stop !)) (look ! 31 refl)) (and-then ! (load ! (from ! (stop !)) (look ! 29 refl)) (and-then ! (load ! (from ! (stop !)) (look ! 27 refl))
+        (and-then ! (load ! (from ! (stop !)) (look ! 25 refl)) (and-then ! (load ! (from ! (stop !)) (look ! 9 refl)) (and-then ! (load ! (from ! (stop !)) (look ! 5 refl))
+        (and-then ! (load ! (from ! (stop !)) (look ! 1 refl)) (no-more !))))))))))) (λ u.
         answered ! tt S.the-row P (Ensured 𝓤 H A W 5 κs ss ks (a .1) S.the-row Says 3) u (λ r is.
         -- [the result; the tokens; what the callee ensures; _17; …]
         land ! (from ! (stop !)) (init ! 37 refl (EL.lawful S.the-type S′.the-laws 𝓤 H A W tt .typed r _ is .0)) $

@@ -56,7 +56,8 @@ module _ {M : Type 1} (𝓤 : URA M) (H : Heap 𝓤) (A : Atoms 𝓤) (W : Given
         qed W (raw (onEntry 𝓤 H A f.signature κs qs (n, (x, (y, tt))) vals) ∷ []) ∵ enter ! C Λ code.function _ _ $
         alloc1 ! (λ l₀. alloc1 ! (λ l₁. alloc1 ! (λ l₂. alloc1 ! (λ l₃. alloc0 ! $ params1 ! $ pass1 ! (init ! 4 refl (tt, record { fits = n-fits })) $
         pass1 ! (init ! 2 refl (tt, (tt, (record { fits = x-room .0 }, tt)))) $ pass1 ! (init ! 0 refl (tt, (tt, (record { fits = y-room .0 }, tt)))) $ pass0 ! $
-        assigns ! (agg ! (and-then ! (load ! (from ! (stop !)) (look ! 4 refl)) (and-then ! (load ! (from ! (stop !)) (look ! 2 refl)) (and-then ! (load ! (from ! (stop !)) (look ! 0 refl)) (no-more !))))) (from ! (stop !)) (init ! 6 refl (tt, (record { fits = n-fits }, ((tt, (record { fits = x-room .0 }, tt)), ((tt, (record { fits = y-room .0 }, tt)), tt))))) $
+        assigns ! (agg ! (and-then ! (load ! (from ! (stop !)) (look ! 4 refl)) (and-then ! (load ! (from ! (stop !)) (look ! 2 refl)) (and-then ! (load ! (from ! (stop !)) (look ! 0 refl)) (no-more !)))))
+        (from ! (stop !)) (init ! 6 refl (tt, (record { fits = n-fits }, ((tt, (record { fits = x-room .0 }, tt)), ((tt, (record { fits = y-room .0 }, tt)), tt))))) $
         returns ! (look ! 6 refl) $ move ! (6 ∷ 7 ∷ 4 ∷ 5 ∷ 2 ∷ 3 ∷ 0 ∷ 1 ∷ []) $ freed ! $ freed ! $ freed ! $ freed ! $ free0 ! $ by ! (made 𝓤 H A W (α κs) (β κs) d (toks 𝓤 A 2 κs qs))))))
 
 new-meets : {M : Type 1} (𝓤 : URA M) (H : Heap 𝓤) (A : Atoms 𝓤) (W : Given 𝓤 H A) (mem : Memory → SProp 𝓤) (run : Routine → Fun 𝓤) (𝓣 : Tables 𝓤 H)

@@ -108,7 +108,9 @@ module _ {M : Type 1} (𝓤 : URA M) (H : Heap 𝓤) (A : Atoms 𝓤) (W : Given
         assigns ! (agg ! (and-then ! (load ! (from ! (stop !)) (look ! 2 refl)) (and-then ! (load ! (from ! (fld ! refl (stop !))) (look-in ! 8 (sub ! 1 refl (whole !)))) (no-more !)))) (from ! (stop !)) (init ! 0 refl (tt, (tt, (record { fits = room₇ .0 }, tt)))) $
         move ! (24 ∷ []) $ use1 W (raw (Callee 𝓤 H A mem run .pre to)) (apart-after 𝓤 H A W (α κs) (β κs) d P (N.the-row .own grid (index grid ∷ [])) (owns (typesAt ss κs) (a .1 .1) (vals .1 .1))) $
         calls-at ! fm (Callee 𝓤 H A mem run) known to
-        (and-then ! (load ! (from ! (stop !)) (look ! 19 refl)) (and-then ! (load ! (from ! (stop !)) (look ! 7 refl)) (and-then ! (load ! (from ! (stop !)) (look ! 5 refl)) (and-then ! (load ! (from ! (stop !)) (look ! 17 refl)) (and-then ! (load ! (from ! (stop !)) (look ! 15 refl)) (and-then ! (load ! (from ! (stop !)) (look ! 13 refl)) (and-then ! (load ! (from ! (stop !)) (look ! 11 refl)) (and-then ! (load ! (from ! (stop !)) (look ! 1 refl)) (no-more !))))))))) (λ u.
+        (and-then ! (load ! (from ! (stop !)) (look ! 19 refl)) (and-then ! (load ! (from ! (stop !)) (look ! 7 refl)) (and-then ! (load ! (from ! (stop !)) (look ! 5 refl))
+        (and-then ! (load ! (from ! (stop !)) (look ! 17 refl)) (and-then ! (load ! (from ! (stop !)) (look ! 15 refl)) (and-then ! (load ! (from ! (stop !)) (look ! 13 refl))
+        (and-then ! (load ! (from ! (stop !)) (look ! 11 refl)) (and-then ! (load ! (from ! (stop !)) (look ! 1 refl)) (no-more !))))))))) (λ u.
         answered ! tt S.the-row P (Ensured 𝓤 H A W 7 κs ss ks (a .1 .1) S.the-row Says 3) u (λ r is.
         -- [the result; the tokens; what the callee ensures; _11; …]
         land ! (from ! (stop !)) (init ! 25 refl (EL.lawful S.the-type S′.the-laws 𝓤 H A W tt .typed r _ is .0)) $

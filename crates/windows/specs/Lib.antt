@@ -1,0 +1,2 @@
+-- The words of the contracts of windows.
+pub mod Window
