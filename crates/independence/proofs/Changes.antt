@@ -57,24 +57,6 @@ pub same-own : (s : GridSearch) (l m : Library) → space l ≡ space m → tabl
 unfolding ownTests roomTests
 same-own s l m z t (insert i x) = ap₂ (λ (u : Space) (rows : List Row). positionTests s x (points s x) ++ (refuse 12 (not (roomy u (rowsWith s i x rows))) ∷ [])) z t
 
--- the rows that it leaves are those of its effect
-pub changed-table : (s : GridSearch) (l : Library) (c : Change) → table (changed s l c) ≡ effect s c (table l)
-unfolding changed effect
-changed-table s l (insert i x) = table-write _ l
-
--- it leaves the space as it was, and a library that passes 24 and 13
-pub changed-space : (s : GridSearch) (l : Library) (c : Change) → fault (changeTests s l c) ≡ none → space (changed s l c) ≡ space l
-unfolding changed
-changed-space s l (insert i x) q = accepted-space s l i x (insert-tests s l i x q)
-
-pub changed-passes : (s : GridSearch) (l : Library) (c : Change) → fault (changeTests s l c) ≡ none → fault (libraryTests s (changed s l c)) ≡ none
-unfolding changed
-changed-passes s l (insert i x) q = accepted-passes s l i x (insert-tests s l i x q)
-
-pub effect-order : (s : GridSearch) (c : Change) (rows : List Row) → sorted (map slotOf rows) ≡ true → sorted (map slotOf (effect s c rows)) ≡ true
-unfolding effect
-effect-order s (insert i x) rows o = inserted-order s i x rows o
-
 module _ (s : GridSearch) (i : ℕ) where
   -- a change of another id leaves the rows of i
   pub other-effect : (c : Change) (rows : List Row) → eqb (whose c) i ≡ false → own i (effect s c rows) ≡ own i rows
@@ -113,6 +95,24 @@ module _ (s : GridSearch) (i : ℕ) where
     where
       fit-insert : fault (changeTests s l (insert j x)) ≡ none → fault (libraryTests s l) ≡ none
       fit-insert q = fault-left (libraryTests s l) (ownTests s l (insert j x)) (unfold changeTests in q)
+
+-- the rows that it leaves are those of its effect
+pub changed-table : (s : GridSearch) (l : Library) (c : Change) → table (changed s l c) ≡ effect s c (table l)
+unfolding changed effect
+changed-table s l (insert i x) = table-write _ l
+
+-- it leaves the space as it was, and a library that passes 24 and 13
+pub changed-space : (s : GridSearch) (l : Library) (c : Change) → fault (changeTests s l c) ≡ none → space (changed s l c) ≡ space l
+unfolding changed
+changed-space s l (insert i x) q = accepted-space s l i x (insert-tests s l i x q)
+
+pub changed-passes : (s : GridSearch) (l : Library) (c : Change) → fault (changeTests s l c) ≡ none → fault (libraryTests s (changed s l c)) ≡ none
+unfolding changed
+changed-passes s l (insert i x) q = accepted-passes s l i x (insert-tests s l i x q)
+
+pub effect-order : (s : GridSearch) (c : Change) (rows : List Row) → sorted (map slotOf rows) ≡ true → sorted (map slotOf (effect s c rows)) ≡ true
+unfolding effect
+effect-order s (insert i x) rows o = inserted-order s i x rows o
 
 -- ---- the same for every change
 
