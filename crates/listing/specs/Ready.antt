@@ -37,10 +37,10 @@ Windowed (place.PlaneYZ x) w = Even w
 Windowed (place.PlaneXZ y) w = Even w
 
 -- for a container's centre up to one bound, and for a row's point up to another on both sides
-pub record Made (n : ℕ) (p : Place) (center point : Float) (r : Ready) : Type 0 where
-  pub line : Lined n p (r .line)
-  pub for-center : Windowed p (r .center)
-  pub for-point : Windowed p (r .point)
+pub record Made (n : ℕ) (center point : Float) (r : Ready) : Type 0 where
+  pub line : Lined n (r .place) (r .line)
+  pub for-center : Windowed (r .place) (r .center)
+  pub for-point : Windowed (r .place) (r .point)
   pub center-from : r .center .from ≡ inf true
   pub center-to : r .center .to ≡ center
   pub point-from : r .point .from ≡ neg point

@@ -23,6 +23,7 @@ use windows::Window;
 
 // A place made ready for many points: the line through its ends, and the windows for a container's centre and for a point.
 pub(crate) struct Ready {
+    pub(crate) place: Place,
     pub(crate) line: Line,
     pub(crate) center: Window,
     pub(crate) point: Window,
@@ -98,10 +99,11 @@ fn line_of(ndim: usize, place: Place) -> Line
 // whose magnitude is at most tol_dist.
 pub(crate) fn made_ready(sheet: GridSearch, place: Place) -> Ready
     requires { ⌜ dimension (sheet .ndim) ≡ true ⌝ }
-    ensures { λ r. ⌜ Made (sheet .ndim) place (sheet .radius ⊕ sheet .«tol_dist») (sheet .«tol_dist») r ⌝ }
+    ensures { λ r. ⌜ Made (sheet .ndim) (sheet .radius ⊕ sheet .«tol_dist») (sheet .«tol_dist») r ⌝ ∗ ⌜ r .place ≡ place ⌝ }
 {
     let tol_dist = sheet.tol_dist;
     Ready {
+        place,
         line: line_of(sheet.ndim, place),
         center: window_of(
             place,
@@ -152,31 +154,27 @@ pub(crate) fn keeps(ndim: usize, filter: Filter, x: Position) -> bool
 }
 
 // Whether a container's centre is within container radius + tol_dist of the place, by the signed distance.
-pub(crate) fn container_near(sheet: GridSearch, place: Place, r: Ready, key: ContainerKey) -> bool
-    requires { ⌜ Divided sheet ⌝ ∗ ⌜ unfit (sheet .ndim) (asked (sheet .ndim) place) ≡ false ⌝ ∗ ⌜ key .0 < containers (counts (sheet .ndim) (sheet .ndiv)) ⌝ }
-    requires { ⌜ Made (sheet .ndim) place (sheet .radius ⊕ sheet .«tol_dist») (sheet .«tol_dist») r ⌝ }
-    ensures { λ v. ⌜ v ≡ containerNear sheet (asked (sheet .ndim) place) (key .0) ⌝ }
+pub(crate) fn container_near(sheet: GridSearch, r: Ready, key: ContainerKey) -> bool
+    requires { ⌜ Divided sheet ⌝ ∗ ⌜ unfit (sheet .ndim) (asked (sheet .ndim) (r .place)) ≡ false ⌝ ∗ ⌜ key .0 < containers (counts (sheet .ndim) (sheet .ndiv)) ⌝ }
+    requires { ⌜ Made (sheet .ndim) (sheet .radius ⊕ sheet .«tol_dist») (sheet .«tol_dist») r ⌝ }
+    ensures { λ v. ⌜ v ≡ containerNear sheet (asked (sheet .ndim) (r .place)) (key .0) ⌝ }
 {
     let ndim = sheet.ndim;
     let center = grid::container_center(ndim, sheet.side_length, sheet.ndiv, sheet.xmin, key);
+    let place = r.place;
     let line = r.line;
     let w = r.center;
     point_lies(ndim, place, line, w, center)
 }
 
 // Whether a point is within tol_dist of the place, by the magnitude of its distance, and kept by the filter.
-pub(crate) fn point_counts(
-    sheet: GridSearch,
-    place: Place,
-    r: Ready,
-    filter: Filter,
-    x: Position,
-) -> bool
-    requires { ⌜ dimension (sheet .ndim) ≡ true ⌝ ∗ ⌜ unfit (sheet .ndim) (asked (sheet .ndim) place) ≡ false ⌝ ∗ ⌜ unfitFilter (sheet .ndim) filter ≡ false ⌝ }
-    requires { ⌜ Made (sheet .ndim) place (sheet .radius ⊕ sheet .«tol_dist») (sheet .«tol_dist») r ⌝ }
-    ensures { λ v. ⌜ v ≡ (pointNear sheet (asked (sheet .ndim) place) (coords (sheet .ndim) x) && passes filter (coords (sheet .ndim) x)) ⌝ }
+pub(crate) fn point_counts(sheet: GridSearch, r: Ready, filter: Filter, x: Position) -> bool
+    requires { ⌜ dimension (sheet .ndim) ≡ true ⌝ ∗ ⌜ unfit (sheet .ndim) (asked (sheet .ndim) (r .place)) ≡ false ⌝ ∗ ⌜ unfitFilter (sheet .ndim) filter ≡ false ⌝ }
+    requires { ⌜ Made (sheet .ndim) (sheet .radius ⊕ sheet .«tol_dist») (sheet .«tol_dist») r ⌝ }
+    ensures { λ v. ⌜ v ≡ (pointNear sheet (asked (sheet .ndim) (r .place)) (coords (sheet .ndim) x) && passes filter (coords (sheet .ndim) x)) ⌝ }
 {
     let ndim = sheet.ndim;
+    let place = r.place;
     let line = r.line;
     let w = r.point;
     point_lies(ndim, place, line, w, x) & keeps(ndim, filter, x)

@@ -29,20 +29,20 @@ use grid_search::GridSearch;
 
 // Whether row i's container is near. Rows of a container stand side by side, so that one centre is measured for each
 // container.
-fn near_now(sheet: GridSearch, keys: &[u64], place: Place, r: Ready, i: usize, near: bool) -> bool
-    requires { ⌜ Divided sheet ⌝ ∗ ⌜ unfit (sheet .ndim) (asked (sheet .ndim) place) ≡ false ⌝ ∗ ⌜ Remembered sheet place (now keys) i near ⌝ }
+fn near_now(sheet: GridSearch, keys: &[u64], r: Ready, i: usize, near: bool) -> bool
+    requires { ⌜ Divided sheet ⌝ ∗ ⌜ unfit (sheet .ndim) (asked (sheet .ndim) (r .place)) ≡ false ⌝ ∗ ⌜ Remembered sheet (r .place) (now keys) i near ⌝ }
     requires { ⌜ (i < length (now keys)) × (getD (now keys) i 0 < containers (counts (sheet .ndim) (sheet .ndiv))) ⌝ }
-    requires { ⌜ Made (sheet .ndim) place (sheet .radius ⊕ sheet .«tol_dist») (sheet .«tol_dist») r ⌝ }
-    ensures { λ v. ⌜ v ≡ containerNear sheet (asked (sheet .ndim) place) (getD (now (keys .entry)) i 0) ⌝ }
+    requires { ⌜ Made (sheet .ndim) (sheet .radius ⊕ sheet .«tol_dist») (sheet .«tol_dist») r ⌝ }
+    ensures { λ v. ⌜ v ≡ containerNear sheet (asked (sheet .ndim) (r .place)) (getD (now (keys .entry)) i 0) ⌝ }
 {
     let key = keys[i];
     if i == 0 {
-        return near::container_near(sheet, place, r, ContainerKey(key));
+        return near::container_near(sheet, r, ContainerKey(key));
     }
     if keys[i - 1] == key {
         return near;
     }
-    near::container_near(sheet, place, r, ContainerKey(key))
+    near::container_near(sheet, r, ContainerKey(key))
 }
 
 // Whether row i counts, where its container is near.
@@ -53,18 +53,17 @@ fn row_counts(
     xs: &[f64],
     ys: &[f64],
     zs: &[f64],
-    place: Place,
     filter: Filter,
     r: Ready,
     i: usize,
 ) -> bool
-    requires { ⌜ dimension (sheet .ndim) ≡ true ⌝ ∗ ⌜ unfit (sheet .ndim) (asked (sheet .ndim) place) ≡ false ⌝ ∗ ⌜ unfitFilter (sheet .ndim) filter ≡ false ⌝ }
-    requires { ⌜ Room (lists (now keys) (now ids) (now xs) (now ys) (now zs)) (i + 1) ⌝ ∗ ⌜ containerNear sheet (asked (sheet .ndim) place) (getD (now keys) i 0) ≡ true ⌝ }
-    requires { ⌜ Made (sheet .ndim) place (sheet .radius ⊕ sheet .«tol_dist») (sheet .«tol_dist») r ⌝ }
-    ensures { λ v. ⌜ v ≡ isOn sheet (asked (sheet .ndim) place) filter (rowAt (lists (now (keys .entry)) (now (ids .entry)) (now (xs .entry)) (now (ys .entry)) (now (zs .entry))) i) ⌝ }
+    requires { ⌜ dimension (sheet .ndim) ≡ true ⌝ ∗ ⌜ unfit (sheet .ndim) (asked (sheet .ndim) (r .place)) ≡ false ⌝ ∗ ⌜ unfitFilter (sheet .ndim) filter ≡ false ⌝ }
+    requires { ⌜ Room (lists (now keys) (now ids) (now xs) (now ys) (now zs)) (i + 1) ⌝ ∗ ⌜ containerNear sheet (asked (sheet .ndim) (r .place)) (getD (now keys) i 0) ≡ true ⌝ }
+    requires { ⌜ Made (sheet .ndim) (sheet .radius ⊕ sheet .«tol_dist») (sheet .«tol_dist») r ⌝ }
+    ensures { λ v. ⌜ v ≡ isOn sheet (asked (sheet .ndim) (r .place)) filter (rowAt (lists (now (keys .entry)) (now (ids .entry)) (now (xs .entry)) (now (ys .entry)) (now (zs .entry))) i) ⌝ }
 {
     let row = table::read_row(keys, ids, xs, ys, zs, i);
-    near::point_counts(sheet, place, r, filter, row.at)
+    near::point_counts(sheet, r, filter, row.at)
 }
 
 // n, or one more.
@@ -94,29 +93,28 @@ fn gather(
     ys: &[f64],
     zs: &[f64],
     used: usize,
-    place: Place,
     filter: Filter,
     r: Ready,
     from: Reached,
     marks: &mut [u16],
 ) -> Reached
-    requires { ⌜ Known sheet (library (now keys) (now ids) (now xs) (now ys) (now zs) used) place filter ⌝ }
-    requires { ⌜ Made (sheet .ndim) place (sheet .radius ⊕ sheet .«tol_dist») (sheet .«tol_dist») r ⌝ }
-    requires { ⌜ Walked sheet place filter (library (now keys) (now ids) (now xs) (now ys) (now zs) used) from (now marks) ⌝ }
-    ensures { λ to. ⌜ Walked sheet place filter (library (now (keys .entry)) (now (ids .entry)) (now (xs .entry)) (now (ys .entry)) (now (zs .entry)) used) to (now (marks .exit)) ⌝ }
+    requires { ⌜ Known sheet (library (now keys) (now ids) (now xs) (now ys) (now zs) used) (r .place) filter ⌝ }
+    requires { ⌜ Made (sheet .ndim) (sheet .radius ⊕ sheet .«tol_dist») (sheet .«tol_dist») r ⌝ }
+    requires { ⌜ Walked sheet (r .place) filter (library (now keys) (now ids) (now xs) (now ys) (now zs) used) from (now marks) ⌝ }
+    ensures { λ to. ⌜ Walked sheet (r .place) filter (library (now (keys .entry)) (now (ids .entry)) (now (xs .entry)) (now (ys .entry)) (now (zs .entry)) used) to (now (marks .exit)) ⌝ }
     ensures { λ to. ⌜ (to .row < used → length (now (marks .exit)) ≡ to .marked + 1) ⌝ }
 {
     let mut n = from.marked;
     let mut near = from.near;
     let mut i = from.row;
     while i < used {
-        let now = near_now(sheet, keys, place, r, i, near);
+        let now = near_now(sheet, keys, r, i, near);
         if !now {
             near = now;
             i += 1;
             continue;
         }
-        let counts = row_counts(sheet, keys, ids, xs, ys, zs, place, filter, r, i);
+        let counts = row_counts(sheet, keys, ids, xs, ys, zs, filter, r, i);
         marks[n] = i as u16;
         let more = advanced(n, counts);
         if more == marks.len() {
@@ -192,17 +190,16 @@ fn list_many(
     ys: &[f64],
     zs: &[f64],
     used: usize,
-    place: Place,
     filter: Filter,
     r: Ready,
     from: Reached,
     few: &[u16],
     list: &mut [u64],
 ) -> Listed
-    requires { ⌜ Known sheet (library (now keys) (now ids) (now xs) (now ys) (now zs) used) place filter ⌝ }
-    requires { ⌜ Made (sheet .ndim) place (sheet .radius ⊕ sheet .«tol_dist») (sheet .«tol_dist») r ⌝ }
-    requires { ⌜ Walked sheet place filter (library (now keys) (now ids) (now xs) (now ys) (now zs) used) from (now few) ⌝ }
-    ensures { λ r. ⌜ Out (idsOf (isOn sheet (asked (sheet .ndim) place) filter) (table (library (now (keys .entry)) (now (ids .entry)) (now (xs .entry)) (now (ys .entry)) (now (zs .entry)) used))) (now (list .entry)) r (now (list .exit)) ⌝ }
+    requires { ⌜ Known sheet (library (now keys) (now ids) (now xs) (now ys) (now zs) used) (r .place) filter ⌝ }
+    requires { ⌜ Made (sheet .ndim) (sheet .radius ⊕ sheet .«tol_dist») (sheet .«tol_dist») r ⌝ }
+    requires { ⌜ Walked sheet (r .place) filter (library (now keys) (now ids) (now xs) (now ys) (now zs) used) from (now few) ⌝ }
+    ensures { λ a. ⌜ Out (idsOf (isOn sheet (asked (sheet .ndim) (r .place)) filter) (table (library (now (keys .entry)) (now (ids .entry)) (now (xs .entry)) (now (ys .entry)) (now (zs .entry)) used))) (now (list .entry)) a (now (list .exit)) ⌝ }
 {
     let mut marks = [0u16; 65537];
     copy_marks(few, from.marked, &mut marks);
@@ -214,7 +211,6 @@ fn list_many(
         ys,
         zs,
         used,
-        place,
         filter,
         r,
         from,
@@ -229,7 +225,6 @@ fn list_many(
             ys,
             zs,
             used,
-            place,
             filter,
             r,
             to,
@@ -271,7 +266,6 @@ pub(crate) fn list_on(
         ys,
         zs,
         used,
-        place,
         filter,
         r,
         start,
@@ -286,7 +280,6 @@ pub(crate) fn list_on(
             ys,
             zs,
             used,
-            place,
             filter,
             r,
             to,

@@ -22,12 +22,12 @@ returns c =
     let c4 = c3 .before in
     let a = c4 in
     let m = a .pre .1 .1 .1 in
-    let d = placeDistance (asked (a .args .sheet .ndim) (a .args .place)) (coords (a .args .sheet .ndim) (c3 .container-center .result)) in
+    let d = placeDistance (asked (a .args .sheet .ndim) (a .args .r .place)) (coords (a .args .sheet .ndim) (c3 .container-center .result)) in
     c .point-lies .ensures
     ∙ ap (λ (f : Float). lies f (a .args .r .center .to) d) (m .center-from)
     ∙ unbounded (a .args .r .center .to) d
     ∙ ap (λ (t : Float). le d t) (m .center-to)
-    ∙ ap (λ (x : List Float). le (placeDistance (asked (a .args .sheet .ndim) (a .args .place)) x) (a .args .sheet .radius ⊕ a .args .sheet .«tol_dist»)) (centre-coords (a .args .sheet) (a .args .key .0) _ (a .pre .0 .axes) (c3 .container-center .ensures))
+    ∙ ap (λ (x : List Float). le (placeDistance (asked (a .args .sheet .ndim) (a .args .r .place)) x) (a .args .sheet .radius ⊕ a .args .sheet .«tol_dist»)) (centre-coords (a .args .sheet) (a .args .key .0) _ (a .pre .0 .axes) (c3 .container-center .ensures))
 
 pub container-near-spec : {M : Type 1} → statement M
 container-near-spec = tie.close (tie.spec (λ c κs. search needs) point-lies-requires returns)

@@ -21,16 +21,18 @@ returns : tie.Need-returns
 unfolding ofBits
 returns c =
     let one = c .before .window-of .ensures in
-    let two = c .window-of2 .ensures in
-    record {
-      line = c .before .before .before .line-of .ensures;
-      for-center = one .0;
-      for-point = two .0;
-      center-from = one .1 .0;
-      center-to = one .1 .1;
-      point-from = two .1 .0;
-      point-to = two .1 .1;
-    }
+    let two = c .window-of2 .ensures in (
+      record {
+        line = c .before .before .before .line-of .ensures;
+        for-center = one .0;
+        for-point = two .0;
+        center-from = one .1 .0;
+        center-to = one .1 .1;
+        point-from = two .1 .0;
+        point-to = two .1 .1;
+      },
+      refl,
+    )
 
 pub made-ready-spec : {M : Type 1} → statement M
 made-ready-spec =

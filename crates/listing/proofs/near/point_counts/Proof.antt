@@ -20,8 +20,8 @@ unfolding pointNear
 returns c =
     let a = c .before .before .before .before in
     let m = a .pre .1 .1 .1 in
-    let d = placeDistance (asked (a .args .sheet .ndim) (a .args .place)) (coords (a .args .sheet .ndim) (a .args .x)) in
-    let n : c .before .point-lies .result ≡ pointNear (a .args .sheet) (asked (a .args .sheet .ndim) (a .args .place)) (coords (a .args .sheet .ndim) (a .args .x)) =
+    let d = placeDistance (asked (a .args .sheet .ndim) (a .args .r .place)) (coords (a .args .sheet .ndim) (a .args .x)) in
+    let n : c .before .point-lies .result ≡ pointNear (a .args .sheet) (asked (a .args .sheet .ndim) (a .args .r .place)) (coords (a .args .sheet .ndim) (a .args .x)) =
     c .before .point-lies .ensures
     ∙ ap (λ (f : Float). lies f (a .args .r .point .to) d) (m .point-from)
     ∙ ap (λ (t : Float). lies (neg (a .args .sheet .«tol_dist»)) t d) (m .point-to)

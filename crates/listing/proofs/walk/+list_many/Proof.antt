@@ -50,7 +50,7 @@ pub +list-many-spec : {M : Type 1} → statement M
     (λ c κs.
     let p = c .before .before .before .before .before .before .before .before .before .before .before .before .before .before .before .before .before .pre .1 in
     let g = c .before .before .before .before .before .gather in
-    absurd (omega (arith, g .ensures .1 (c .before .before .if1 .taken), g .ensures .0 .upto, g .ensures .0 .gathered .upto, p .0 .small, g .kept .1 .1 .1 .1 .1 .1 .1 .1 .1 .1 .1 .0)))
+    absurd (omega (arith, g .ensures .1 (c .before .before .if1 .taken), g .ensures .0 .upto, g .ensures .0 .gathered .upto, p .0 .small, g .kept .1 .1 .1 .1 .1 .1 .1 .1 .1 .1 .0)))
     -- same-length, returns, slice-aggregate-list-marked
     (λ c. search needs)
     (λ c. search needs)

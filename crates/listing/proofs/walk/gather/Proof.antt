@@ -13,11 +13,11 @@ use Rattle.listing.proofs.walk.gather.Statement.{statement}
 use Rattle.listing.proofs.walk.gather.Tie as tie
 
 abbrev Inv-loop : tie.InvT-loop
-Inv-loop sheet keys ids xs ys zs used place filter r marks₀ n₀ near₀ i₀ marks n near i =
-    (length marks ≡ length marks₀) × Walked sheet place filter (library keys ids xs ys zs used) (record { row = i; marked = n; near = near }) marks
+Inv-loop sheet keys ids xs ys zs used filter r marks₀ n₀ near₀ i₀ marks n near i =
+    (length marks ≡ length marks₀) × Walked sheet (r .place) filter (library keys ids xs ys zs used) (record { row = i; marked = n; near = near }) marks
 
 abbrev μ-loop : tie.MeasureT-loop
-μ-loop sheet keys ids xs ys zs used place filter r marks₀ n₀ near₀ i₀ marks n near i = used - i
+μ-loop sheet keys ids xs ys zs used filter r marks₀ n₀ near₀ i₀ marks n near i = used - i
 
 loop-holds : tie.Need-loop-holds Inv-loop μ-loop
 loop-holds c = (refl, c .before .before .before .before .before .before .pre .1 .1)
@@ -38,7 +38,7 @@ loop-again : tie.Need-loop-again Inv-loop μ-loop
 loop-again c =
     let a = c .before .before .before .before .before .before .before .before .before .before in
     let w = c .before .before .before .loop in
-    let far = row-far (a .args .sheet) (asked (a .args .sheet .ndim) (a .args .place)) (a .args .filter) _ (sym (c .before .near-now .ensures) ∙ not-true _ (c .if1 .taken)) in
+    let far = row-far (a .args .sheet) (asked (a .args .sheet .ndim) (a .args .r .place)) (a .args .filter) _ (sym (c .before .near-now .ensures) ∙ not-true _ (c .if1 .taken)) in
     (w .inv .0, walked-passed (c .before .near-now .result) (w .inv .1) (c .before .before .loop-test .taken) (c .before .near-now .ensures) far)
 
 row-counts-requires : tie.Need-row-counts-requires Inv-loop μ-loop

@@ -8,15 +8,15 @@ use Rattle.listing.proofs.walk.list_on.Tie as tie
 gather-requires : tie.Need-gather-requires
 gather-requires c κs =
     let a = c .before .before .before .before .before .before .before .before in
-    (a .pre, (c .before .made-ready .ensures, walked-none _ (omega arith)))
+    (rw (c .before .made-ready .ensures .1) (a .pre), (c .before .made-ready .ensures .0, walked-none _ (omega arith)))
 
 list-many-requires : tie.Need-list-many-requires
 list-many-requires c κs =
     let a = c .before .before .before .before .before .before .before .before .before .before .before .before .before .before in
-    (a .pre, (c .before .before .before .before .before .before .before .made-ready .ensures, c .before .before .before .before .before .gather .ensures .0))
+    (rw (c .before .before .before .before .before .before .before .made-ready .ensures .1) (a .pre), (c .before .before .before .before .before .before .before .made-ready .ensures .0, c .before .before .before .before .before .gather .ensures .0))
 
 returns : tie.Need-returns
-returns c = c .before .before .list-many .ensures
+returns c = rw (c .before .before .before .before .before .before .before .before .before .before .made-ready .ensures .1) at (c .before .before .list-many .ensures)
 
 list-marked-requires : tie.Need-list-marked-requires
 list-marked-requires c κs =
@@ -26,8 +26,8 @@ list-marked-requires c κs =
 
 returns-2 : tie.Need-returns-2
 returns-2 c =
-    let a = c .before .before .before .before .before .before .before .before .before .before .before .before .before .before .before .before .before .before in
-    walked-all (c .before .before .before .before .before .before .before .before .before .gather .ensures .0) (c .before .before .before .before .before .before .if1 .left) (c .before .before .before .list-marked .ensures)
+    let c9 = c .before .before .before .before .before .before .before .before .before in
+    rw (c9 .before .before .made-ready .ensures .1) at (walked-all (c9 .gather .ensures .0) (c .before .before .before .before .before .before .if1 .left) (c .before .before .before .list-marked .ensures))
 
 pub list-on-spec : {M : Type 1} → statement M
 list-on-spec =

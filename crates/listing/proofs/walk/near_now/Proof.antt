@@ -16,7 +16,7 @@ returns c = c .container-near .ensures
 returns-2 : tie.Need-returns-2
 returns-2 c =
     let a = c .before .before .before .before .before in
-    a .pre .1 .1 .0 (omega (arith, c .before .before .if1 .left)) ∙ ap (λ (k : ℕ). containerNear (a .args .sheet) (asked (a .args .sheet .ndim) (a .args .place)) k) (c .if2 .taken)
+    a .pre .1 .1 .0 (omega (arith, c .before .before .if1 .left)) ∙ ap (λ (k : ℕ). containerNear (a .args .sheet) (asked (a .args .sheet .ndim) (a .args .r .place)) k) (c .if2 .taken)
 
 container-near-requires-2 : tie.Need-container-near-requires-2
 container-near-requires-2 c κs = let p = c .before .before .before .before .before .pre in (p .0, (p .1 .0, (p .1 .1 .1 .0 .1, p .1 .1 .1 .1)))
