@@ -10,7 +10,8 @@ use Rattle.listing.specs.declared.Filter.{Filter}
 use Rattle.listing.specs.Place.{Asked}
 use Rattle.listing.specs.declared.Listed.{Listed}
 use Rattle.listing.specs.declared.Listed.the-variants.{Count, Refused}
-use Rattle.listing.specs.Listing.{Listing, listing, listed, Lists}
+use Rattle.listing.specs.Listing.{listing, listed, Lists}
+use Rattle.basics.specs.Filled.{Filled}
 use Rattle.capi.specs.Answers.{number, written}
 use Rattle.capi.specs.Lists.{ToldList}
 
@@ -22,8 +23,8 @@ module _ (l : Library) (p : Asked) (lent : List ℕ) {s s′ : GridSearch} (same
 
   told : {b : Listed} → r ≡ b → ToldList (listing s l p f lent) (number (listed b)) list count (written (listed b) count)
   told {b} e =
-      let a : listed b ≡ listing s l p f lent .answer = sym (ap listed e) ∙ g .answers ∙ ap (λ (x : Listing). x .answer) same-listing in
-      record { returned = ap number a; list-is = g .list-is ∙ ap (λ (x : Listing). x .list) same-listing; count-is = ap (λ (x : Answer ℕ). written x count) a }
+      let a : listed b ≡ listing s l p f lent .answer = sym (ap listed e) ∙ g .answers ∙ ap (λ (x : Filled). x .answer) same-listing in
+      record { returned = ap number a; list-is = g .list-is ∙ ap (λ (x : Filled). x .list) same-listing; count-is = ap (λ (x : Answer ℕ). written x count) a }
 
   pub told-count : r ≡ Count n → ToldList (listing s l p f lent) 0 list count n
   told-count e = told e

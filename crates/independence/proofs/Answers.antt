@@ -12,7 +12,7 @@ use lib.ListN.{length}
 use lib.Ieee.{Float}
 use borrow.Author.Tests.{eqb-true, eq-eqb, leb-true, leb-false, le-ltb}
 use Rattle.basics.proofs.Bools.{by-test, clash, both, and-both, or-either, or-true}
-use Rattle.basics.specs.Lists.{all, has, over}
+use Rattle.basics.specs.Lists.{all, has}
 use Rattle.basics.specs.Refusals.{Test, refuse, fault, refused, success, answer}
 use Rattle.basics.proofs.Refusals.{fault-left, fault-right, fault-stop}
 use Rattle.grid_search.specs.declared.GridSearch.{GridSearch}
@@ -24,7 +24,9 @@ use Rattle.search.specs.Search.{nearRows, lowest, chosen, searchTests, searchAn
 use Rattle.listing.specs.declared.Filter.{Filter}
 use Rattle.sorting.specs.Ascent.{ascending}
 use Rattle.listing.specs.Place.{Asked, isOn, placeTests}
-use Rattle.listing.specs.Listing.{Listing, idsOn, onTests, listingTests, listOut, listing}
+use Rattle.listing.specs.Listing.{idsOn, onTests, listingTests, listing}
+use Rattle.basics.specs.Filled.{Filled, fill}
+use Rattle.basics.proofs.Filled.{fill-success, fill-refused}
 use Rattle.independence.specs.Run.{isNone}
 use Rattle.independence.specs.Queries.{pass, near, on}
 use Rattle.independence.specs.Claims.{Finding, Writing}
@@ -131,23 +133,6 @@ module _ (s : GridSearch) (l : Library) (x : List Float) where
 
 -- ---- listing
 
-module _ (o : Option ℕ) (ids lent : List ℕ) (n : ℕ) where
-  written : listOut o ids lent .answer ≡ success n → (o ≡ none) × (listOut o ids lent .list ≡ over ids lent) × (n ≡ length ids)
-  unfolding listOut
-  written e = go o e
-    where
-      go : (o : Option ℕ) → listOut o ids lent .answer ≡ success n → (o ≡ none) × (listOut o ids lent .list ≡ over ids lent) × (n ≡ length ids)
-      go none e = (refl, refl, cc)
-      go (some m) e = let z : _≡_ {A = ℕ} 0 1 = cc in absurd (omega arith)
-
-  unwritten : listOut o ids lent .answer ≡ refused n → o ≡ some n
-  unfolding listOut
-  unwritten e = go o e
-    where
-      go : (o : Option ℕ) → listOut o ids lent .answer ≡ refused n → o ≡ some n
-      go none e = let z : _≡_ {A = ℕ} 0 1 = cc in absurd (omega arith)
-      go (some m) e = cc
-
 -- of tests that go on with 14, another number is one of those before
 before-14 : (ts : List Test) (b : Bool) (n : ℕ) → fault (ts ++ (refuse 14 b ∷ [])) ≡ some n → eqb n 14 ≡ false → pass ts ≡ false
 unfolding pass isNone fault
@@ -193,7 +178,7 @@ module _ (s : GridSearch) (l : Library) (p : Asked) (f : Filter) (lent : List �
   tests : List Test
   tests = onTests s l p f ++ (refuse 14 (ltb (length lent) (length (idsOn s l p f))) ∷ [])
 
-  listing-is : listing s l p f lent ≡ listOut (fault tests) (idsOn s l p f) lent
+  listing-is : listing s l p f lent ≡ fill (fault tests) (idsOn s l p f) lent
   unfolding listing listingTests tests
   listing-is = refl
 
@@ -213,15 +198,15 @@ module _ (s : GridSearch) (l : Library) (p : Asked) (f : Filter) (lent : List �
   unfolding tests
   writing = record {
     writes = λ n e.
-        let d = written (fault tests) (idsOn s l p f) lent n (ap (λ (t : Listing). t .answer) (sym listing-is) ∙ e) in
+        let d = fill-success (idsOn s l p f) lent n (fault tests) (ap (λ (t : Filled). t .answer) (sym listing-is) ∙ e) in
         let t = pass-left (onTests s l p f) (refuse 14 (ltb (length lent) (length (idsOn s l p f))) ∷ []) (d .0) in
-        (ap (λ (t : Listing). t .list) listing-is ∙ d .1, d .2, λ i. sym (on-is i ∙ ap (λ (b : Bool). b && has i (idsOn s l p f)) t));
+        (ap (λ (t : Filled). t .list) listing-is ∙ d .1, d .2, λ i. sym (on-is i ∙ ap (λ (b : Bool). b && has i (idsOn s l p f)) t));
     ascend = listed-ascend;
     no-more = listed-no-more;
     long-enough = λ h e.
         never-14 (onTests s l p f) (ltb (length lent) (length (idsOn s l p f))) no-14 (le-ltb (length lent) (length (idsOn s l p f)) (omega (arith, listed-no-more)))
-        (unwritten (fault tests) (idsOn s l p f) lent 14 (ap (λ (t : Listing). t .answer) (sym listing-is) ∙ e));
+        (fill-refused (idsOn s l p f) lent 14 (fault tests) (ap (λ (t : Filled). t .answer) (sym listing-is) ∙ e));
     refused-on = λ n e g i.
-        let d = unwritten (fault tests) (idsOn s l p f) lent n (ap (λ (t : Listing). t .answer) (sym listing-is) ∙ e) in
+        let d = fill-refused (idsOn s l p f) lent n (fault tests) (ap (λ (t : Filled). t .answer) (sym listing-is) ∙ e) in
         on-is i ∙ ap (λ (b : Bool). b && has i (idsOn s l p f)) (before-14 (onTests s l p f) (ltb (length lent) (length (idsOn s l p f))) n d g);
   }

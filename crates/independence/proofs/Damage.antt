@@ -19,7 +19,8 @@ use Rattle.rows.specs.Insert.{positionTests, roomTests}
 use Rattle.search.specs.Search.{searchTests, searchAnswer, chosen, nearRows}
 use Rattle.listing.specs.declared.Filter.{Filter}
 use Rattle.listing.specs.Place.{Asked, placeTests}
-use Rattle.listing.specs.Listing.{idsOn, occupied, onTests, listingTests, listOut, listing}
+use Rattle.listing.specs.Listing.{idsOn, occupied, onTests, listingTests, listing}
+use Rattle.basics.specs.Filled.{fill}
 use Rattle.independence.specs.Run.{Change, insert, Call, change, search, list, Reply, step, refusalIn, refusal, run, replies}
 use Rattle.independence.specs.Claims.{blames}
 use Rattle.independence.proofs.Changes.{changeTests, ownTests, step-done, step-refused, changed-space, changed-passes}
@@ -53,8 +54,8 @@ unfolding refusalIn answer
 refusal-answer none a = refl
 refusal-answer (some n) a = refl
 
-refusal-out : (o : Option ℕ) (ids lent : List ℕ) → refusalIn (listOut o ids lent .answer) ≡ o
-unfolding refusalIn listOut
+refusal-out : (o : Option ℕ) (ids lent : List ℕ) → refusalIn (fill o ids lent .answer) ≡ o
+unfolding refusalIn fill
 refusal-out none ids lent = refl
 refusal-out (some n) ids lent = refl
 

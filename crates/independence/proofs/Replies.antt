@@ -16,7 +16,8 @@ use Rattle.rows.specs.Insert.{Turn, positionTests, settle}
 use Rattle.search.specs.Search.{nearRows, chosen, searchTests, searchAnswer}
 use Rattle.listing.specs.declared.Filter.{Filter}
 use Rattle.listing.specs.Place.{Asked, isOn, placeTests}
-use Rattle.listing.specs.Listing.{idsOf, occupied, Listing, idsOn, onTests, listingTests, listOut, listing}
+use Rattle.listing.specs.Listing.{idsOf, occupied, idsOn, onTests, listingTests, listing}
+use Rattle.basics.specs.Filled.{Filled, fill}
 use Rattle.independence.specs.Run.{Change, Call, change, search, list, counted, found, listed, changing, step}
 use Rattle.independence.proofs.Changes.{changeTests, ownTests, counting, changed, changing-is, same-own}
 
@@ -26,9 +27,9 @@ settled none a new old = refl
 settled (some n) a new old = refl
 
 -- a listing by the rows
-listReply : GridSearch → List Row → Asked → Filter → List ℕ → Listing
+listReply : GridSearch → List Row → Asked → Filter → List ℕ → Filled
 listReply s rows p f lent =
-    listOut (fault (placeTests s p f (occupied rows) ++ (refuse 14 (ltb (length lent) (length (idsOf (isOn s p f) rows))) ∷ []))) (idsOf (isOn s p f) rows) lent
+    fill (fault (placeTests s p f (occupied rows) ++ (refuse 14 (ltb (length lent) (length (idsOf (isOn s p f) rows))) ∷ []))) (idsOf (isOn s p f) rows) lent
 
 module _ (s : GridSearch) (l : Library) (v : fault (libraryTests s l) ≡ none) where
   -- the tests of the library pass, and the call's own decide
@@ -50,7 +51,7 @@ module _ (s : GridSearch) (l : Library) (v : fault (libraryTests s l) ≡ none) 
   unfolding listing listingTests onTests idsOn listReply
   list-is p f lent =
       let short = refuse 14 (ltb (length lent) (length (idsOn s l p f))) ∷ [] in
-      ap (λ (o : Option ℕ). listOut o (idsOn s l p f) lent)
+      ap (λ (o : Option ℕ). fill o (idsOn s l p f) lent)
       (ap fault (append-assoc (libraryTests s l) (placeTests s p f (occupied (table l))) short) ∙ own-decide (placeTests s p f (occupied (table l)) ++ short))
 
 -- two libraries that pass, of one space and with the same rows

@@ -12,7 +12,8 @@ use Rattle.rows.specs.Insert.{Turn, insertion}
 use Rattle.search.specs.Search.{searchAnswer}
 use Rattle.listing.specs.declared.Filter.{Filter}
 use Rattle.listing.specs.Place.{Asked}
-use Rattle.listing.specs.Listing.{Listing, listing}
+use Rattle.listing.specs.Listing.{listing}
+use Rattle.basics.specs.Filled.{Filled}
 
 -- a call that changes rows, and only rows of one id: an insertion of that id at a position
 pub data Change : Type 0 where
@@ -28,7 +29,7 @@ pub data Call : Type 0 where
 pub data Reply : Type 0 where
   counted : Answer ℕ → Reply
   found : Answer (Option ℕ) → Reply
-  listed : Listing → Reply
+  listed : Filled → Reply
 
 -- ---- one call
 

@@ -28,7 +28,8 @@ use Rattle.listing.specs.declared.Filter.{Filter}
 use Rattle.listing.specs.declared.Listed.{Listed}
 use Rattle.listing.specs.declared.Listed.the-variants.{Refused}
 use Rattle.listing.specs.Place.{Asked, asked, isOn, unfit, unfitFilter, wrongLength, placeLimits, filterLimits, pinched, placeTests}
-use Rattle.listing.specs.Listing.{idsOf, occupied, idsOn, onTests, listingTests, listOut, listing, Lists}
+use Rattle.listing.specs.Listing.{idsOf, occupied, idsOn, onTests, listingTests, listing, Lists}
+use Rattle.basics.specs.Filled.{fill}
 use Rattle.listing.specs.Posts.{Known, Out}
 
 -- ---- refusals as numbers
@@ -47,7 +48,7 @@ module _ (s : GridSearch) (l : Library) (p : Asked) (f : Filter) (list : List �
   last = refuse 14 (ltb (length list) (length (idsOn s l p f))) ∷ []
 
   stopped : (n : ℕ) → fault (listingTests s l p f (length list)) ≡ some n → Lists (listing s l p f list) (Refused n) list
-  unfolding listing listOut
+  unfolding listing fill
   stopped n e = record { answers = rw e; list-is = rw e }
 
   pub bad-library : (n : ℕ) → n ≡ code (fault (libraryTests s l)) → (n ≡ 0 → ⊥) → Lists (listing s l p f list) (Refused n) list
@@ -65,7 +66,7 @@ module _ (s : GridSearch) (l : Library) (p : Asked) (f : Filter) (list : List �
     listed-out good r after o =
         let e : fault (listingTests s l p f (length list)) ≡ fault last =
         fault-right (libraryTests s l ++ ours) last (fault-right (libraryTests s l) ours ok ∙ good) in
-        record { answers = o .answers ∙ ap (λ (q : Option ℕ). listOut q (idsOn s l p f) list .answer) (sym e); list-is = o .list-is ∙ ap (λ (q : Option ℕ). listOut q (idsOn s l p f) list .list) (sym e) }
+        record { answers = o .answers ∙ ap (λ (q : Option ℕ). fill q (idsOn s l p f) list .answer) (sym e); list-is = o .list-is ∙ ap (λ (q : Option ℕ). fill q (idsOn s l p f) list .list) (sym e) }
 
 -- ---- the tests of a place, in the code's order
 

@@ -29,7 +29,8 @@ use Rattle.listing.specs.declared.Listed.{Listed}
 use Rattle.listing.specs.declared.Listed.the-variants.{Count, Refused}
 use Rattle.listing.specs.declared.walk.Reached.{Reached}
 use Rattle.listing.specs.Place.{Asked, asked, isOn, containerNear, pointNear, passes}
-use Rattle.listing.specs.Listing.{idsOf, listOut}
+use Rattle.listing.specs.Listing.{idsOf}
+use Rattle.basics.specs.Filled.{fill}
 use Rattle.listing.specs.Posts.{Remembered, Gathered, Walked, Out}
 
 -- ---- one more row
@@ -191,11 +192,11 @@ module _ (ids marks out : List ℕ) (n : ℕ) (inside : n ≤ length marks) (are
   count = ap length (sym are) ∙ length-map (take n marks) (markId ids) ∙ length-take-le n marks inside
 
   pub out-short : length list < n → Out out list (Refused 14) list
-  unfolding listOut fault
+  unfolding fill fault
   out-short h = let t : ltb (length list) (length out) ≡ true = lt-ltb (length list) (length out) (omega (arith, count)) in record { answers = rw t; list-is = rw t }
 
   pub out-long : (after : List ℕ) → n ≤ length list → after ≡ over (map (markId ids) (take n marks)) list → Out out list (Count n) after
-  unfolding listOut fault
+  unfolding fill fault
   out-long after h e =
       let t : ltb (length list) (length out) ≡ false = le-ltb (length list) (length out) (omega (arith, count)) in
       record { answers = rw (t, count); list-is = rw t (e ∙ ap (λ (l : List ℕ). over l list) are) }

@@ -3,11 +3,11 @@
 use Prim.Native.Nat.{ℕ}
 use mathlib.Core.Path.{_≡_}
 use mathlib.Core.Bool.{Bool, true, false}
-use mathlib.Core.Option.{Option, none, some}
 use mathlib.Core.List.{List, [], _∷_, _++_, map}
 use lib.Dec.{ltb}
 use lib.ListN.{length}
-use Rattle.basics.specs.Lists.{keep, over}
+use Rattle.basics.specs.Lists.{keep}
+use Rattle.basics.specs.Filled.{Filled, fill}
 use Rattle.basics.specs.Refusals.{Test, refuse, fault, Answer, refused, success}
 use Rattle.grid_search.specs.declared.GridSearch.{GridSearch}
 use Rattle.table.specs.declared.Row.{Row}
@@ -45,24 +45,15 @@ unfolding onTests idsOn
 listingTests s l p f room = onTests s l p f ++ (refuse 14 (ltb room (length (idsOn s l p f))) ∷ [])
 
 -- the count with the ids at the front of the list, or the refusal with the list as it was
-pub record Listing : Type 0 where
-  pub answer : Answer ℕ
-  pub list : List ℕ
-
-unfoldable pub listOut : Option ℕ → List ℕ → List ℕ → Listing
-unfolding over
-listOut none ids list = record { answer = success (length ids); list = over ids list }
-listOut (some n) ids list = record { answer = refused n; list = list }
-
-unfoldable pub listing : GridSearch → Library → Asked → Filter → List ℕ → Listing
-unfolding listOut fault listingTests idsOn
-listing s l p f list = listOut (fault (listingTests s l p f (length list))) (idsOn s l p f) list
+unfoldable pub listing : GridSearch → Library → Asked → Filter → List ℕ → Filled
+unfolding fill fault listingTests idsOn
+listing s l p f list = fill (fault (listingTests s l p f (length list))) (idsOn s l p f) list
 
 abbrev pub listed : Listed → Answer ℕ
 listed (Count n) = success n
 listed (Refused n) = refused n
 
 -- what is returned, and what the list holds at exit, is what the definition gives
-pub record Lists (l : Listing) (r : Listed) (list : List ℕ) : Type 0 where
+pub record Lists (l : Filled) (r : Listed) (list : List ℕ) : Type 0 where
   pub answers : listed r ≡ l .answer
   pub list-is : list ≡ l .list

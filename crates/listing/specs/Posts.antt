@@ -22,7 +22,8 @@ use Rattle.listing.specs.declared.Filter.{Filter}
 use Rattle.listing.specs.declared.Listed.{Listed}
 use Rattle.listing.specs.declared.walk.Reached.{Reached}
 use Rattle.listing.specs.Place.{askedOf, asked, wrongLength, unfit, unfitFilter, containerNear, isOn}
-use Rattle.listing.specs.Listing.{listOut, listed}
+use Rattle.listing.specs.Listing.{listed}
+use Rattle.basics.specs.Filled.{fill}
 
 -- A place that the code makes of a number and slices: the one that they name, where it is one and the slices have the right
 -- length, and else of the same kind, so that 16 says the same of both.
@@ -57,5 +58,5 @@ pub record Walked (s : GridSearch) (p : Place) (f : Filter) (l : Library) (r : R
 
 -- what is returned, and what the list holds at exit, where only 14 can turn the call away
 pub record Out (ids list : List ℕ) (r : Listed) (after : List ℕ) : Type 0 where
-  pub answers : listed r ≡ listOut (fault (refuse 14 (ltb (length list) (length ids)) ∷ [])) ids list .answer
-  pub list-is : after ≡ listOut (fault (refuse 14 (ltb (length list) (length ids)) ∷ [])) ids list .list
+  pub answers : listed r ≡ fill (fault (refuse 14 (ltb (length list) (length ids)) ∷ [])) ids list .answer
+  pub list-is : after ≡ fill (fault (refuse 14 (ltb (length list) (length ids)) ∷ [])) ids list .list
