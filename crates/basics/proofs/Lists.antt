@@ -1,13 +1,13 @@
 -- Laws of lists that the kit lacks: `tab`, `keep`, `zipWith`, `map` of a part of a list, and tests of every entry.
 -- Assumes nothing.
-use Prim.Native.Nat.{ℕ, zero, suc, _≤_, _<_, zero-le, suc-le-suc}
+use Prim.Native.Nat.{ℕ, zero, suc, _+_, _≤_, _<_, zero-le, suc-le-suc}
 use native.Mathlib.Nat.{le-of-suc-le-suc, not-suc-le-zero}
 use native.Mathlib.Omega.{arith}
 use mathlib.Core.Path.{_≡_, refl, ap, ap₂}
-use mathlib.Core.Bool.{Bool, true, false, _&&_}
+use mathlib.Core.Bool.{Bool, true, false, not, _&&_}
 use mathlib.Core.List.{List, [], _∷_, _++_, map, map-append}
 use lib.ListN.{length, getD, take, drop}
-use Rattle.basics.proofs.Bools.{by-test, both, and-left, and-right}
+use Rattle.basics.proofs.Bools.{by-test, clash, both, and-left, and-right}
 use Rattle.basics.specs.Lists.{all, keep, tab, zipWith}
 
 -- ---- f 0, f 1, ..
@@ -114,3 +114,42 @@ module _ {A : Type 0} where
   getD-any [] i d e h = absurd (not-suc-le-zero h)
   getD-any (x ∷ xs) zero d e h = refl
   getD-any (x ∷ xs) (suc i) d e h = getD-any xs i d e (le-of-suc-le-suc h)
+
+-- ---- those that pass a test, among those that pass another
+
+module _ {A : Type 0} (p : A → Bool) where
+  pub all-keep : (good : A → Bool) (l : List A) → all good l ≡ true → all good (keep p l) ≡ true
+  unfolding all keep
+  all-keep good [] a = refl
+  all-keep good (x ∷ l) a =
+      let ih = all-keep good l (and-right (good x) (all good l) a) in
+      by-test (p x) (λ e. rw e (both (and-left (good x) (all good l) a) ih)) (λ e. rw e ih)
+
+  -- those that pass and those that do not are all there are
+  pub length-both : (l : List A) → length (keep p l) + length (keep (λ (x : A). not (p x)) l) ≡ length l
+  unfolding keep
+  length-both [] = refl
+  length-both (x ∷ l) = let ih = length-both l in by-test (p x) (λ e. rw e (omega (arith, ih))) (λ e. rw e (omega (arith, ih)))
+
+module _ {A : Type 0} (p q : A → Bool) where
+  pub keep-keep : (l : List A) → keep p (keep q l) ≡ keep q (keep p l)
+  unfolding keep
+  keep-keep [] = refl
+  keep-keep (x ∷ l) =
+      let ih = keep-keep l in
+      by-test (p x) (λ e. by-test (q x) (λ f. rw (e, f, e, ih)) (λ f. rw (e, f, ih))) (λ e. by-test (q x) (λ f. rw (e, f, e, ih)) (λ f. rw (e, f, ih)))
+
+  -- where the first test asks for more than the second, the second changes nothing; where it asks for the contrary, nothing is left
+  pub keep-within : ((x : A) → p x ≡ true → q x ≡ true) → (l : List A) → keep p (keep q l) ≡ keep p l
+  unfolding keep
+  keep-within h [] = refl
+  keep-within h (x ∷ l) =
+      let ih = keep-within h l in
+      by-test (p x) (λ e. rw (h x e, e, ih)) (λ e. by-test (q x) (λ f. rw (e, f, e, ih)) (λ f. rw (e, f, ih)))
+
+  pub keep-apart : ((x : A) → p x ≡ true → q x ≡ false) → (l : List A) → keep p (keep q l) ≡ []
+  unfolding keep
+  keep-apart h [] = refl
+  keep-apart h (x ∷ l) =
+      let ih = keep-apart h l in
+      by-test (q x) (λ f. by-test (p x) (λ e. clash f (h x e)) (λ e. rw (f, e, ih))) (λ f. rw (f, ih))

@@ -14,7 +14,8 @@ use Rattle.grid_search.specs.declared.GridSearch.{GridSearch}
 use Rattle.rows.specs.declared.Inserted.{Inserted}
 use Rattle.rows.specs.declared.Inserted.the-variants as insert
 use Rattle.table.specs.Library.{Library}
-use Rattle.rows.specs.Insert.{Turn, inserted}
+use Rattle.rows.specs.Turn.{Turn}
+use Rattle.rows.specs.Insert.{inserted}
 use Rattle.loading.specs.Loading.{recordsOf, leftover, insertBytes, Inserts}
 use Rattle.loading.proofs.Chunks.{in-parts, stored-whole, whole-append}
 use Rattle.loading.proofs.Marks.{then-success, bytes-used}

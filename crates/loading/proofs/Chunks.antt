@@ -18,7 +18,7 @@ use Rattle.basics.specs.Lists.{tab}
 use Rattle.basics.specs.Refusals.{Answer, refused, success, refuse, fault}
 use Rattle.grid_search.specs.declared.GridSearch.{GridSearch}
 use Rattle.table.specs.Library.{Library}
-use Rattle.rows.specs.Insert.{Turn}
+use Rattle.rows.specs.Turn.{Turn}
 use Rattle.loading.specs.Loading.{unless, recordsOf, insertRecord, andThen, insertAll, leftover, finish, insertBytes}
 
 -- ---- tables

@@ -18,7 +18,8 @@ use Rattle.rows.specs.declared.Inserted.{Inserted}
 use Rattle.rows.specs.declared.Inserted.the-variants.{Stored, Refused}
 use Rattle.table.specs.Library.{Library, library}
 use Rattle.rows.specs.Damage.{libraryTests}
-use Rattle.rows.specs.Insert.{Turn, insertion, usedAfter, Gives}
+use Rattle.rows.specs.Turn.{Turn, Gives}
+use Rattle.rows.specs.Insert.{insertion, inserted, usedAfter}
 use Rattle.rows.proofs.Kept.{insertion-passes}
 use Rattle.records.specs.declared.Record.{Record}
 use Rattle.records.specs.Records.{reading}
@@ -96,11 +97,12 @@ module _ (width : ℕ) (s : GridSearch) (bytes : List ℕ) where
     now-it = g .ahead ∙ ap (insertAll s l) (next-record i h) ∙ all-cons l (take width (drop (i * width) bytes)) (drop (suc i) (recordsOf width bytes))
 
     -- what is returned for the part of the bytes that the record is, and what the lists hold then
-    module _ {keys ids : List ℕ} {xs ys zs : List Float} (used k : ℕ) (same : k ≡ width) (r : Inserted) (t : Gives (insertRecord s l (take k (drop (i * width) bytes))) r (library keys ids xs ys zs (usedAfter r used))) where
-      given : (q : Inserted) → r ≡ q → Gives turn q (library keys ids xs ys zs (usedAfter q used))
+    module _ {keys ids : List ℕ} {xs ys zs : List Float} (used k : ℕ) (same : k ≡ width) (r : Inserted)
+        (t : Gives (insertRecord s l (take k (drop (i * width) bytes))) (inserted r) (library keys ids xs ys zs (usedAfter r used))) where
+      given : (q : Inserted) → r ≡ q → Gives turn (inserted q) (library keys ids xs ys zs (usedAfter q used))
       given q e =
-          subst (λ (x : Inserted). Gives turn x (library keys ids xs ys zs (usedAfter x used))) e
-          (subst (λ (n : ℕ). Gives (insertRecord s l (take n (drop (i * width) bytes))) r (library keys ids xs ys zs (usedAfter r used))) same t)
+          subst (λ (x : Inserted). Gives turn (inserted x) (library keys ids xs ys zs (usedAfter x used))) e
+          (subst (λ (n : ℕ). Gives (insertRecord s l (take n (drop (i * width) bytes))) (inserted r) (library keys ids xs ys zs (usedAfter r used))) same t)
 
       -- it is stored: go on
       pub goes-on : (n : ℕ) → r ≡ Stored n → Going width s bytes l₀ (library keys ids xs ys zs n) (i + 1)

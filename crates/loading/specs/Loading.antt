@@ -16,7 +16,8 @@ use Rattle.grid_search.specs.declared.GridSearch.{GridSearch}
 use Rattle.grid_search.specs.Sheet.{newSheet}
 use Rattle.rows.specs.declared.Inserted.{Inserted}
 use Rattle.table.specs.Library.{Library}
-use Rattle.rows.specs.Insert.{Turn, insertion, Gives}
+use Rattle.rows.specs.Turn.{Turn, Gives}
+use Rattle.rows.specs.Insert.{insertion, inserted}
 use Rattle.records.specs.declared.Record.{Record}
 use Rattle.records.specs.Records.{recordAt, reading}
 
@@ -94,4 +95,4 @@ insertBytes width s l bytes = finish (leftover width bytes) (insertAll s l (reco
 -- What is returned, and what the lists hold once bytes are inserted. After a refusal the rows in use are those of the marks before
 -- it: `lists` is the library at exit but for that count.
 abbrev pub Inserts : Turn ℕ → Inserted → (ℕ → Library) → Type 0
-Inserts t r lists = Gives t r (lists (t .library .used))
+Inserts t r lists = Gives t (inserted r) (lists (t .library .used))

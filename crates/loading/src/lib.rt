@@ -6,7 +6,8 @@ ghost use Rattle.geometry.specs.declared.Position.{Position};
 ghost use Rattle.geometry.specs.Position.{coords};
 ghost use Rattle.grid_search.specs.Sheet.{made};
 ghost use Rattle.table.specs.Library.{library};
-ghost use Rattle.rows.specs.Insert.{insertion, usedAfter, Gives};
+ghost use Rattle.rows.specs.Turn.{Gives};
+ghost use Rattle.rows.specs.Insert.{insertion, inserted, usedAfter};
 ghost use Rattle.loading.specs.Loading.{placeOf, sheetOfRecords, insertRecord, insertBytes, Inserts};
 use grid_search::GivenF64;
 use grid_search::GivenU64;
@@ -60,7 +61,7 @@ fn insert_mark(
     mark: Record,
 ) -> Inserted
     ensures { λ r. ⌜ Gives (insertion sheet (library (now (keys .entry)) (now (ids .entry)) (now (xs .entry)) (now (ys .entry)) (now (zs .entry)) used) (mark .id) (placeOf (sheet .ndim) mark))
-        r (library (now (keys .exit)) (now (ids .exit)) (now (xs .exit)) (now (ys .exit)) (now (zs .exit)) (usedAfter r used)) ⌝ }
+        (inserted r) (library (now (keys .exit)) (now (ids .exit)) (now (xs .exit)) (now (ys .exit)) (now (zs .exit)) (usedAfter r used)) ⌝ }
 {
     let x = [mark.x, mark.y, mark.z];
     let n = floats_read(sheet.ndim);
@@ -79,7 +80,7 @@ pub fn insert_record(
     bytes: &[u8],
 ) -> Inserted
     ensures { λ r. ⌜ Gives (insertRecord sheet (library (now (keys .entry)) (now (ids .entry)) (now (xs .entry)) (now (ys .entry)) (now (zs .entry)) used) (now (bytes .entry)))
-        r (library (now (keys .exit)) (now (ids .exit)) (now (xs .exit)) (now (ys .exit)) (now (zs .exit)) (usedAfter r used)) ⌝ }
+        (inserted r) (library (now (keys .exit)) (now (ids .exit)) (now (xs .exit)) (now (ys .exit)) (now (zs .exit)) (usedAfter r used)) ⌝ }
 {
     let read = records::read_record(bytes);
     match read {

@@ -12,7 +12,8 @@ use Rattle.rows.specs.declared.Inserted.{Inserted}
 use Rattle.rows.specs.declared.Inserted.the-variants.{Stored, Refused}
 use Rattle.table.specs.Library.{Library, table, space, level, tooLong}
 use Rattle.rows.specs.Damage.{libraryTests}
-use Rattle.rows.specs.Insert.{Turn, inserted}
+use Rattle.rows.specs.Turn.{Turn}
+use Rattle.rows.specs.Insert.{inserted}
 use Rattle.rows.proofs.Kept.{empty-passes}
 use Rattle.display.specs.Display.{displayText}
 use Rattle.loading.specs.Loading.{insertBytes, Inserts}

@@ -10,7 +10,7 @@ use Rattle.floats.specs.Rounded.{zeroF}
 use Rattle.grid_search.specs.declared.GridSearch.{GridSearch}
 use Rattle.table.specs.Library.{Library, library, table}
 use Rattle.rows.specs.Damage.{libraryTests}
-use Rattle.rows.specs.Insert.{Turn}
+use Rattle.rows.specs.Turn.{Turn}
 use Rattle.text.specs.Text.{refusal}
 use Rattle.display.specs.Display.{displayText}
 use Rattle.loading.specs.Loading.{sheetIn, insertBytes}

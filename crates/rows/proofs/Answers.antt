@@ -11,7 +11,7 @@ use lib.Ieee.{Float}
 use native.Mathlib.Omega.{arith}
 use borrow.Author.Tests.{le-leb, lt-leb, eqb-true, not-false}
 use Rattle.basics.specs.Lists.{all, any}
-use Rattle.basics.specs.Refusals.{Test, refuse, fault, code, success}
+use Rattle.basics.specs.Refusals.{Test, refuse, fault, code, refused, success}
 use Rattle.basics.proofs.Refusals.{fault-stop, fault-right, code-none, code-some, unrefused}
 use Rattle.geometry.specs.declared.Position.{Position}
 use Rattle.geometry.specs.Position.{coords, positionOf, coordinate}
@@ -28,9 +28,9 @@ use Rattle.table.specs.Library.{Library, table, write, space, fits, roomy}
 use Rattle.table.specs.Posts.{InOrder, CountAfter, Takes, Becomes}
 use Rattle.table.proofs.Libraries.{slots-table, write-used, room-for}
 use Rattle.rows.specs.Damage.{libraryTests}
-use Rattle.rows.specs.Insert.{outsideSheet, overshoots, containerOf, points, rowsWith, positionTests, roomTests, insertTests, settle, insertion, Gives}
+use Rattle.rows.specs.Turn.{settle, Gives}
+use Rattle.rows.specs.Insert.{outsideSheet, overshoots, containerOf, points, rowsWith, positionTests, roomTests, insertTests, insertion}
 use Rattle.rows.specs.Posts.{Divided, FoundTargets, Accepts, Judges}
-use Rattle.rows.specs.declared.Inserted.the-variants.{Stored, Refused}
 use Rattle.rows.specs.declared.Judged.{Judged}
 use Rattle.rows.specs.declared.Judged.the-variants as judged
 use Rattle.rows.proofs.Check.{whole, numbered, divided, in-order}
@@ -181,12 +181,12 @@ module _ (s : GridSearch) (l : Library) (i : ℕ) (x : List Float) where
 
   -- what it answers and leaves
 
-  pub turned-away : {n : ℕ} → fault (insertTests s l i x) ≡ some n → Gives (insertion s l i x) (Refused n) l
+  pub turned-away : {n : ℕ} → fault (insertTests s l i x) ≡ some n → Gives (insertion s l i x) (refused n) l
   unfolding insertion settle
   turned-away e = rw e (record { answers = refl; library-is = refl })
 
   pub accepted : fault (insertTests s l i x) ≡ none → {n : ℕ} {after : Library} → n ≡ length (rowsWith s i x (table l)) → after ≡ write (rowsWith s i x (table l)) l
-      → Gives (insertion s l i x) (Stored n) after
+      → Gives (insertion s l i x) (success n) after
   unfolding insertion settle
   accepted e m d = rw e (record { answers = ap success m; library-is = d })
 
@@ -236,7 +236,7 @@ module _ (s : GridSearch) (l : Library) (i : ℕ) (x : List Float) (p : Position
     room = rw same-rows (room-for l (whole s l (accepted-library s l i x (a .passes)) .layout) (rowsWith s i x (table l)) (accepted-room s l i x (a .passes)));
   }
 
-  pub stored : {after : Library} → Becomes (putIn i p (take r into)) l after → Gives (insertion s l i x) (Stored (after .used)) after
+  pub stored : {after : Library} → Becomes (putIn i p (take r into)) l after → Gives (insertion s l i x) (success (after .used)) after
   stored {after} d =
       let g : after ≡ write (rowsWith s i x (table l)) l = d ∙ ap (λ (rows : List Row). write rows l) same-rows in
       accepted s l i x (a .passes) (ap (λ (m : Library). m .used) g ∙ write-used (rowsWith s i x (table l)) l) g

@@ -33,7 +33,8 @@ use Rattle.table.proofs.All.{sorted-all}
 use Rattle.table.proofs.Ids.{all-putIn}
 use Rattle.table.proofs.Libraries.{empty-table, table-write, write-used, space-write, layout-is, room-for, layout-kept}
 use Rattle.rows.specs.Damage.{goodRow, libraryTests}
-use Rattle.rows.specs.Insert.{containerOf, overshoots, points, targets, rowsWith, positionTests, roomTests, insertTests, settle, insertion}
+use Rattle.rows.specs.Turn.{settle}
+use Rattle.rows.specs.Insert.{containerOf, overshoots, points, targets, rowsWith, positionTests, roomTests, insertTests, insertion}
 use Rattle.rows.proofs.Check.{Whole, whole, not-long, whole-passes}
 
 -- ---- keys, for a position of any length
@@ -142,27 +143,20 @@ module _ (s : GridSearch) (l : Library) (i : ℕ) (x : List Float) (q : fault (i
 
 -- ---- whatever an insertion answers
 
-module _ (s : GridSearch) (l : Library) (i : ℕ) (x : List Float) where
-  -- the library that it leaves
-  left-by : (o : Option ℕ) → fault (insertTests s l i x) ≡ o → insertion s l i x .library ≡ settle o (length (rowsWith s i x (table l))) (write (rowsWith s i x (table l)) l) l .library
-  unfolding insertion
-  left-by o e = rw e
+-- what holds of a library as it was, and as an accepted call leaves it, holds of it after the call
+pub settle-keeps : {A : Type 0} (P : Library → Type 0) (o : Option ℕ) (a : A) (new old : Library) → (o ≡ none → P new) → P old → P (settle o a new old .library)
+unfolding settle
+settle-keeps P none a new old p q = p refl
+settle-keeps P (some n) a new old p q = q
 
+module _ (s : GridSearch) (l : Library) (i : ℕ) (x : List Float) where
   pub insertion-space : space (insertion s l i x .library) ≡ space l
-  unfolding settle
-  insertion-space = go (fault (insertTests s l i x)) refl
-    where
-      go : (o : Option ℕ) → fault (insertTests s l i x) ≡ o → space (insertion s l i x .library) ≡ space l
-      go none e = ap space (left-by none e) ∙ accepted-space s l i x e
-      go (some n) e = ap space (left-by (some n) e)
+  unfolding insertion
+  insertion-space = settle-keeps (λ (m : Library). space m ≡ space l) (fault (insertTests s l i x)) _ _ l (accepted-space s l i x) refl
 
   pub insertion-passes : fault (libraryTests s l) ≡ none → fault (libraryTests s (insertion s l i x .library)) ≡ none
-  unfolding settle
-  insertion-passes v = go (fault (insertTests s l i x)) refl
-    where
-      go : (o : Option ℕ) → fault (insertTests s l i x) ≡ o → fault (libraryTests s (insertion s l i x .library)) ≡ none
-      go none e = rw (left-by none e) (accepted-passes s l i x e)
-      go (some n) e = rw (left-by (some n) e) v
+  unfolding insertion
+  insertion-passes v = settle-keeps (λ (m : Library). fault (libraryTests s m) ≡ none) (fault (insertTests s l i x)) _ _ l (accepted-passes s l i x) v
 
 -- ---- a library without rows, on a good sheet, its lists being of one length of at most 65,536
 

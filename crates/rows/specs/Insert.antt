@@ -1,9 +1,7 @@
 -- Module 6: where a mark goes, what turns an insertion away, and what it answers and leaves.
 -- Assumes nothing.
 use Prim.Native.Nat.{ℕ, _/_, _%_, _^_}
-use mathlib.Core.Path.{_≡_}
 use mathlib.Core.Bool.{Bool, cond, not}
-use mathlib.Core.Option.{Option, none, some}
 use mathlib.Core.List.{List, [], _∷_, _++_, map}
 use lib.Dec.{eqb}
 use lib.ListN.{length}
@@ -20,6 +18,7 @@ use Rattle.table.specs.declared.Row.{Row}
 use Rattle.table.specs.Rows.{putIn}
 use Rattle.table.specs.Library.{Library, table, write, space, roomy}
 use Rattle.rows.specs.Damage.{libraryTests}
+use Rattle.rows.specs.Turn.{Turn, settle}
 use Rattle.rows.specs.declared.Inserted.{Inserted}
 use Rattle.rows.specs.declared.Inserted.the-variants.{Stored, Refused}
 
@@ -91,15 +90,6 @@ insertTests s l i x = libraryTests s l ++ (positionTests s x (points s x) ++ roo
 
 -- ---- what it answers and leaves: the number of rows in use, or the refusal and the library as it was
 
--- a call's answer, and the library as it leaves it
-pub record Turn (A : Type 0) : Type 0 where
-  pub library : Library
-  pub answer : Answer A
-
-unfoldable pub settle : {A : Type 0} → Option ℕ → A → Library → Library → Turn A
-settle none a new old = record { library = new; answer = success a }
-settle (some n) a new old = record { library = old; answer = refused n }
-
 unfoldable pub insertion : GridSearch → Library → ℕ → List Float → Turn ℕ
 unfolding settle fault insertTests rowsWith table write
 insertion s l i x = let rows = rowsWith s i x (table l) in settle (fault (insertTests s l i x)) (length rows) (write rows l) l
@@ -113,8 +103,3 @@ inserted (Refused n) = refused n
 abbrev pub usedAfter : Inserted → ℕ → ℕ
 usedAfter (Stored n) used = n
 usedAfter (Refused n) used = used
-
--- what is returned, and the library at exit, is what the definition gives
-pub record Gives (t : Turn ℕ) (r : Inserted) (after : Library) : Type 0 where
-  pub answers : inserted r ≡ t .answer
-  pub library-is : after ≡ t .library

@@ -13,7 +13,8 @@ ghost use Rattle.geometry.specs.Position.{coords, dimension};
 ghost use Rattle.table.specs.Library.{library, table, space, tooLong, soundLayout};
 ghost use Rattle.table.specs.Posts.{Rising, lists};
 ghost use Rattle.rows.specs.Damage.{soundRows, libraryTests};
-ghost use Rattle.rows.specs.Insert.{outsideSheet, corner, positionTests, insertion, Gives, usedAfter};
+ghost use Rattle.rows.specs.Turn.{Gives};
+ghost use Rattle.rows.specs.Insert.{outsideSheet, corner, positionTests, insertion, inserted, usedAfter};
 ghost use Rattle.rows.specs.Posts.{plusZero, slotsOk, pointsOk, Divided, Checked, Added, FoundTargets, Judges};
 use geometry::Position;
 use grid::Located;
@@ -314,7 +315,7 @@ pub fn insert(
     x: &[f64],
 ) -> Inserted
     ensures { λ r. ⌜ Gives (insertion sheet (library (now (keys .entry)) (now (ids .entry)) (now (xs .entry)) (now (ys .entry)) (now (zs .entry)) used) (id .0) (now (x .entry)))
-        r (library (now (keys .exit)) (now (ids .exit)) (now (xs .exit)) (now (ys .exit)) (now (zs .exit)) (usedAfter r used)) ⌝ }
+        (inserted r) (library (now (keys .exit)) (now (ids .exit)) (now (xs .exit)) (now (ys .exit)) (now (zs .exit)) (usedAfter r used)) ⌝ }
 {
     let mut into: [u64; 9] = [0; 9];
     let judged = judge(sheet, keys, ids, xs, ys, zs, used, id.0, x, &mut into);

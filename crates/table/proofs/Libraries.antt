@@ -10,13 +10,13 @@ use lib.Dec.{eqb}
 use lib.ListN.{length, take, drop, length-map, length-append, length-drop, take-append-drop}
 use lib.Seq.{drop-nil}
 use lib.Ieee.{Float, nan}
-use borrow.Author.Tests.{leb-true, eqb-true}
+use borrow.Author.Tests.{leb-true, le-leb, eqb-true}
 use Rattle.basics.proofs.Bools.{both, and-both}
 use Rattle.basics.specs.Lists.{all, over}
 use Rattle.basics.proofs.Lists.{length-tab, map-tab, tab-take}
 use Rattle.table.specs.declared.Row.{Row}
 use Rattle.table.specs.Rows.{slotOf, slotsOf, keyIn, idIn, xIn, yIn, zIn}
-use Rattle.table.specs.Library.{Library, library, rowAt, rowsOf, table, write, lengths, Space, space, level, fits, roomy, soundLayout}
+use Rattle.table.specs.Library.{Library, library, rowAt, rowsOf, table, write, blank, lengths, Space, space, level, fits, roomy, soundLayout}
 use Rattle.table.specs.Posts.{Ordered, Long, Room, InOrder, eachOf}
 
 -- ---- the rows that the lists hold
@@ -98,9 +98,23 @@ module _ (l : Library) (e : soundLayout l ≡ true) where
   unfolding roomy space
   room-for rows f = long (lengths l) (length rows) (parts .0) f
 
+  -- the rows in use have room
+  pub roomy-table : roomy (space l) (table l) ≡ true
+  unfolding roomy
+  roomy-table = ap (fits (space l .rows)) (length-table l) ∙ parts .1
+
   -- another library of the same space, whose rows have room
   pub layout-kept : (m : Library) → space m ≡ space l → (rows : List Row) → m .used ≡ length rows → roomy (space l) rows ≡ true → soundLayout m ≡ true
   layout-kept m z rows n f = layout-is m ∙ both (ap (λ (s : Space). level (s .rows)) z ∙ parts .0) (ap₂ (λ (s : Space) (k : ℕ). fits (s .rows) k) z n ∙ unfold roomy in f)
+
+-- fewer rows have room where more have
+pub roomy-fewer : (s : Space) (rows fewer : List Row) → length fewer ≤ length rows → roomy s rows ≡ true → roomy s fewer ≡ true
+unfolding roomy
+roomy-fewer s rows fewer h e = fits-fewer (s .rows) e
+  where
+    fits-fewer : (ns : List ℕ) → fits ns (length rows) ≡ true → fits ns (length fewer) ≡ true
+    fits-fewer [] e = refl
+    fits-fewer (n ∷ ns) e = le-leb _ n (omega (arith, leb-true (length rows) n e, h))
 
 -- ---- the front of a list written over
 
@@ -192,6 +206,15 @@ same-lengths rows l h =
 pub space-write : (rows : List Row) (l : Library) → Room l (length rows) → space (write rows l) ≡ space l
 unfolding space
 space-write rows l h = let m = same-lengths rows l h in λ i. record { rows = m .0 i ∷ m .1 i ∷ m .2 i ∷ m .3 i ∷ m .4 i ∷ [] }
+
+-- the same lists with zeros in every entry have the same space
+pub space-blank : (l : Library) → space (blank l) ≡ space l
+unfolding space blank
+space-blank l = simp length-map
+
+-- and rows written over zeros leave it, where there is room
+pub space-anew : (rows : List Row) (l : Library) → Room l (length rows) → space (write rows (blank l)) ≡ space l
+space-anew rows l h = space-write rows (blank l) (unfold space in subst (λ (s : Space). Long (s .rows) (length rows)) (sym (space-blank l)) h) ∙ space-blank l
 
 -- ---- one thing done to each list, where that is what writing rows is to one list
 

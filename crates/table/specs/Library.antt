@@ -7,6 +7,7 @@ use lib.Dec.{ltb, leb, eqb}
 use lib.ListN.{length, getD}
 use lib.Ieee.{Float, nan}
 use Rattle.basics.specs.Lists.{all, any, tab, over}
+use Rattle.floats.specs.Rounded.{zeroF}
 use Rattle.table.specs.declared.Row.{Row}
 use Rattle.table.specs.Rows.{rowOf, keyIn, idIn, xIn, yIn, zIn}
 
@@ -45,6 +46,17 @@ write rows l = record {
   ys = over (map yIn rows) (l .ys);
   zs = over (map zIn rows) (l .zs);
   used = length rows;
+}
+
+-- the lists with 0 or +0 in every entry, and no row in use
+unfoldable pub blank : Library → Library
+blank l = record {
+  keys = map (λ (k : ℕ). 0) (l .keys);
+  ids = map (λ (i : ℕ). 0) (l .ids);
+  xs = map (λ (x : Float). zeroF) (l .xs);
+  ys = map (λ (y : Float). zeroF) (l .ys);
+  zs = map (λ (z : Float). zeroF) (l .zs);
+  used = 0;
 }
 
 -- how many entries each list has

@@ -1,7 +1,7 @@
 -- The rows of the table, their order, and what a store, a look-up and a search are to give.
 -- Assumes nothing.
 use Prim.Native.Nat.{ℕ, suc}
-use mathlib.Core.Bool.{Bool, true, false, _&&_, _||_, cond}
+use mathlib.Core.Bool.{Bool, true, false, not, _&&_, _||_, cond}
 use mathlib.Core.List.{List, [], _∷_}
 use mathlib.Core.Option.{Option, none, some}
 use lib.ListN.{getD}
@@ -105,6 +105,11 @@ putIn i p (k ∷ ks) rows = putIn i p ks (putRow (rowIn i p k) rows)
 unfoldable pub own : ℕ → List Row → List Row
 unfolding keep
 own i rows = keep (λ (r : Row). eqb (idIn r) i) rows
+
+-- the rows of other ids, in their order
+unfoldable pub without : ℕ → List Row → List Row
+unfolding keep
+without i rows = keep (λ (r : Row). not (eqb (idIn r) i)) rows
 
 -- the row of a slot, if there is one
 unfoldable pub rowFor : Slot → List Row → Option Row
