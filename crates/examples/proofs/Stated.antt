@@ -1,6 +1,7 @@
--- Each line of the examples gives what it states, by evaluation: one proof for the starred lines, and one for those beside them.
+-- Each line of the examples gives what it states, by evaluation: one proof for the documents' lines, and one for those beside them.
 -- Assumes nothing.
 use mathlib.Core.Path.{refl}
+use lib.ListN.{drop}
 use lib.Ieee.{add, sub, mul, div, ofInt, toUnsigned}
 use Rattle.floats.specs.Tests.{within}
 use Rattle.table.specs.Rows.{before, same, chain, putRow}
@@ -8,7 +9,10 @@ use Rattle.examples.specs.Examples.{Agree, lines, room, others, fourRows
 
 pub as-stated : Agree lines
 unfolding lines add sub mul div ofInt toUnsigned within room before same chain putRow
-as-stated = (refl, (refl, (refl, (refl, (refl, (refl, (refl, (refl, (refl, (refl, (refl, (refl, (refl, (refl, (refl, (refl, (refl, (refl, (refl, (refl, (refl, (refl, (refl, tt)))))))))))))))))))))))
+as-stated =
+    let requests : Agree (drop 23 lines) = (refl, (refl, (refl, (refl, (refl, (refl, (refl, (refl, (refl, (refl, (refl, (refl, (refl, (refl, tt)))))))))))))) in
+    let rest : Agree (drop 12 lines) = (refl, (refl, (refl, (refl, (refl, (refl, (refl, (refl, (refl, (refl, (refl, requests))))))))))) in
+    (refl, (refl, (refl, (refl, (refl, (refl, (refl, (refl, (refl, (refl, (refl, (refl, rest))))))))))))
 
 pub others-stated : Agree others
 unfolding others add sub mul div ofInt toUnsigned within room fourRows before same chain putRow

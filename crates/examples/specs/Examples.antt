@@ -1,6 +1,7 @@
--- The lines of document 01's 'Positions tried' that it marks with a star, evaluated against the definitions that the contracts cite: one list, one proof.
+-- The lines of document 01's 'Positions tried' that it marks with a star, and lines for document 02's requests,
+-- evaluated against the definitions that the contracts cite: one list, one proof.
 -- Assumes nothing.
-use Prim.Native.Nat.{ℕ}
+use Prim.Native.Nat.{ℕ, suc}
 use mathlib.Core.Path.{_≡_}
 use mathlib.Core.Bool.{Bool, true, false}
 use mathlib.Core.Option.{Option, none, some}
@@ -23,7 +24,9 @@ use Rattle.grid_search.specs.Sheet.{newSheet}
 use Rattle.grid_search.specs.Examples.{S, lowOfS, highOfS}
 use Rattle.table.specs.Rows.{keyIn}
 use Rattle.table.specs.Library.{Library, table}
-use Rattle.rows.specs.Insert.{Turn, containerOf, insertion}
+use Rattle.rows.specs.Turn.{Turn}
+use Rattle.rows.specs.Insert.{containerOf, insertion}
+use Rattle.strike.specs.Strike.{striking}
 use Rattle.search.specs.Search.{searchAnswer}
 
 -- what a line states: floats, numbers, a test's outcome, or a refusal
@@ -42,9 +45,10 @@ unfoldable pub ofSheet : Answer GridSearch → Stated
 ofSheet (refused n) = refusal n
 ofSheet (success s) = accepted
 
-unfoldable pub ofInsertion : Answer ℕ → Stated
-ofInsertion (refused n) = refusal n
-ofInsertion (success n) = number n
+-- of an insertion or a striking
+unfoldable pub ofChange : Answer ℕ → Stated
+ofChange (refused n) = refusal n
+ofChange (success n) = number n
 
 unfoldable pub ofSearch : Answer (Option ℕ) → Stated
 ofSearch (refused n) = refusal n
@@ -94,7 +98,11 @@ withTolerance t = ofSheet (newSheet lowOfS highOfS (count.Given 8) (float.Given 
 unfoldable pub room : ℕ → Library
 room n = record { keys = replicate n 77; ids = replicate n 5; xs = replicate n nan; ys = replicate n (inf true); zs = replicate n half; used = 0 }
 
--- id 7 at (2, 1), then at (5.5, 2.5); id 8 alone
+-- the same with one row more in use than there is room for
+unfoldable pub overfull : ℕ → Library
+overfull n = record { keys = replicate n 77; ids = replicate n 5; xs = replicate n nan; ys = replicate n (inf true); zs = replicate n half; used = suc n }
+
+-- id 7 at (2, 1), then at (5.5, 2.5); id 8 at (3 - 9/4096, 0.5), or at (6, 3)
 unfoldable pub seven : ℕ → Turn ℕ
 unfolding insertion S room
 seven n = insertion S (room n) 7 (pow2 1 ∷ pow2 0 ∷ [])
@@ -103,9 +111,27 @@ unfoldable pub moved : Turn ℕ
 unfolding insertion S seven
 moved = insertion S (seven 8 .library) 7 (fiveAndHalf ∷ twoAndHalf ∷ [])
 
-unfoldable pub eight : Turn ℕ
-unfolding insertion S room
-eight = insertion S (room 8) 8 (belowThree ∷ half ∷ [])
+unfoldable pub eight : Library → Turn ℕ
+unfolding insertion S
+eight l = insertion S l 8 (belowThree ∷ half ∷ [])
+
+unfoldable pub sixThree : Library → Turn ℕ
+unfolding insertion S
+sixThree l = insertion S l 8 (fin false 6 (pos 0) ∷ fin false 3 (pos 0) ∷ [])
+
+-- 7 struck off; 7 at (2, 1), and then struck off
+unfoldable pub retire : Library → Turn ℕ
+unfolding striking S
+retire l = striking S l 7
+
+unfoldable pub sevenGone : ℕ → Turn ℕ
+unfolding retire seven
+sevenGone n = retire (seven n .library)
+
+-- 7 at (2, 1), then 8 at (3 - 9/4096, 0.5), and 7 struck off
+unfoldable pub closed : ℕ → Turn ℕ
+unfolding retire eight seven
+closed n = retire (eight (seven n .library) .library)
 
 unfoldable pub find : Library → Float → Float → Stated
 unfolding ofSearch searchAnswer S
@@ -117,7 +143,7 @@ unfolding triangleCoords
 inTriangle x y =
     triangleCoords (positionOf (zeroF ∷ zeroF ∷ [])) (positionOf (pow2 2 ∷ zeroF ∷ [])) (positionOf (zeroF ∷ pow2 2 ∷ [])) (positionOf (x ∷ y ∷ []))
 
--- ---- the list: what the definitions give, and what document 01 states
+-- ---- the list: what the definitions give, and what the documents state
 
 pub record Line : Type 0 where
   pub given : Stated
@@ -127,7 +153,7 @@ unfoldable pub line : Stated → Stated → Line
 line g s = record { given = g; stated = s }
 
 unfoldable pub lines : List Line
-unfolding line sqrtOf containerOf S find seven moved eight withTolerance pointCircleAnswer ofDistance ofInsertion keysOf inTriangle inside
+unfolding line sqrtOf containerOf S find seven moved eight sixThree retire sevenGone closed overfull withTolerance pointCircleAnswer ofDistance ofChange keysOf inTriangle inside
 lines =
     -- S has divisions 8 and 4, and side 1
     line (numbers (counts 2 (S .ndiv))) (numbers (8 ∷ 4 ∷ []))
@@ -141,16 +167,16 @@ lines =
     ∷ line (number (containerOf S (pow2 3 ∷ pow2 2 ∷ []))) (number 31)
     ∷ line (find (room 8) above8 (pow2 2)) (refusal 11)
     -- id 7 at (2, 1) into empty rows; with 3 free rows
-    ∷ line (ofInsertion (seven 8 .answer)) (number 4)
+    ∷ line (ofChange (seven 8 .answer)) (number 4)
     ∷ line (keysOf (seven 8 .library)) (numbers (1 ∷ 2 ∷ 9 ∷ 10 ∷ []))
-    ∷ line (ofInsertion (seven 3 .answer)) (refusal 12)
+    ∷ line (ofChange (seven 3 .answer)) (refusal 12)
     -- afterwards (2, 1) finds 7; at (5.5, 2.5) key 21 is added, and (2, 1) still finds 7
     ∷ line (find (seven 8 .library) (pow2 1) (pow2 0)) (number 7)
     ∷ line (keysOf (moved .library)) (numbers (1 ∷ 2 ∷ 9 ∷ 10 ∷ 21 ∷ []))
     ∷ line (find (moved .library) (pow2 1) (pow2 0)) (number 7)
     -- id 8 alone at (3 - 9/4096, 0.5), and (3, 0.5)
-    ∷ line (keysOf (eight .library)) (numbers (2 ∷ []))
-    ∷ line (find (eight .library) (fin false 3 (pos 0)) half) (nothing)
+    ∷ line (keysOf (eight (room 8) .library)) (numbers (2 ∷ []))
+    ∷ line (find (eight (room 8) .library) (fin false 3 (pos 0)) half) (nothing)
     -- S with tolerance 0.5, and with 0.4375
     ∷ line (withTolerance half) (refusal 10)
     ∷ line (withTolerance (fin false 7 (negsuc 3))) (accepted)
@@ -161,6 +187,24 @@ lines =
     ∷ line (floats (zetas 3 (inTriangle (pow2 0) (pow2 0)))) (floats (half ∷ pow2⁻ 2 ∷ pow2⁻ 2 ∷ []))
     ∷ line (floats (zetas 3 (inTriangle (pow2 1) (pow2 1)))) (floats (zeroF ∷ half ∷ half ∷ []))
     ∷ line (test (inside zeroF (zetas 3 (inTriangle (pow2 1) (pow2 1))))) (test true)
+    -- Document 02, request a: of 7 at (2, 1) 4 rows go, (2, 1) finds Nothing, and striking again is 26
+    ∷ line (ofChange (sevenGone 8 .answer)) (number 4)
+    ∷ line (find (sevenGone 8 .library) (pow2 1) (pow2 0)) (nothing)
+    ∷ line (ofChange (retire (sevenGone 8 .library) .answer)) (refusal 26)
+    -- and damage comes before 26: in a library with more rows in use than it has room for, in which 7 has none
+    ∷ line (ofChange (retire (overfull 2) .answer)) (refusal 13)
+    -- with room for 4 rows: beside 7 at (2, 1), 8 at (6, 3) is 12; once 7 is struck off it is accepted, with 4 rows
+    ∷ line (ofChange (sixThree (seven 4 .library) .answer)) (refusal 12)
+    ∷ line (ofChange (sixThree (sevenGone 4 .library) .answer)) (number 4)
+    ∷ line (keysOf (sixThree (sevenGone 4 .library) .library)) (numbers (21 ∷ 22 ∷ 29 ∷ 30 ∷ []))
+    -- with room for 6 rows: the row of 8 moves to the front, and every entry past it is 0 or +0, whatever stood there
+    ∷ line (ofChange (closed 6 .answer)) (number 4)
+    ∷ line (numbers (closed 6 .library .keys)) (numbers (2 ∷ replicate 5 0))
+    ∷ line (numbers (closed 6 .library .ids)) (numbers (8 ∷ replicate 5 0))
+    ∷ line (floats (closed 6 .library .xs)) (floats (belowThree ∷ replicate 5 zeroF))
+    ∷ line (floats (closed 6 .library .ys)) (floats (half ∷ replicate 5 zeroF))
+    ∷ line (floats (closed 6 .library .zs)) (floats (replicate 6 zeroF))
+    ∷ line (number (closed 6 .library .used)) (number 1)
     ∷ []
 
 -- each line gives what it states
@@ -185,11 +229,11 @@ unfolding insertion S room
 beyond = insertion S (room 8) 7 (above8 ∷ pow2 2 ∷ [])
 
 unfoldable pub others : List Line
-unfolding line ofInsertion ofSearch searchAnswer keysOf find full beyond moved S
+unfolding line ofChange ofSearch searchAnswer keysOf find full beyond moved S
 others =
-    line (ofInsertion (full .answer)) (number 4)
+    line (ofChange (full .answer)) (number 4)
     ∷ line (keysOf (full .library)) (numbers (1 ∷ 2 ∷ 9 ∷ 10 ∷ []))
-    ∷ line (ofInsertion (beyond .answer)) (refusal 11)
+    ∷ line (ofChange (beyond .answer)) (refusal 11)
     ∷ line (keysOf (beyond .library)) (numbers [])
     ∷ line (find (moved .library) fiveAndHalf twoAndHalf) (number 7)
     ∷ line (ofSearch (searchAnswer S (room 8) [])) (refusal 2)

@@ -6,7 +6,7 @@ use mathlib.Core.Option.{Option, none, some}
 use mathlib.Core.List.{List, [], _∷_, _++_}
 use lib.Ieee.{Float}
 use Rattle.basics.proofs.Bools.{by-test}
-use Rattle.basics.specs.Lists.{keep}
+use Rattle.basics.specs.Lists.{keep, has}
 use Rattle.basics.specs.Refusals.{Test, fault}
 use Rattle.basics.proofs.Refusals.{fault-right, fault-stop}
 use Rattle.grid_search.specs.declared.GridSearch.{GridSearch}
@@ -73,3 +73,15 @@ module _ (i : ℕ) (s : GridSearch) (l l′ : Library) (t : pass (libraryTests s
           let z : count l ≡ false = holds-own i (isOn s p f) (table l) ∙ none-there i (isOn s p f) (own i (table l)) e in
           let z′ : count l′ ≡ false = sym (same-rows (isOn s p f)) ∙ z in
           rw (z, z′, and-false, and-false)
+
+-- an id without rows is near no position and on no place
+module _ (i : ℕ) (s : GridSearch) (l : Library) (e : own i (table l) ≡ []) where
+  no-rows : (p : Row → Bool) → holds i (keep p (table l)) ≡ false
+  unfolding keep has
+  no-rows p = holds-own i p (table l) ∙ ap (λ (rows : List Row). holds i (keep p rows)) e
+
+  pub near-nothing : (x : List Float) → near s l x i ≡ false
+  near-nothing x = near-is s l x i ∙ rw (no-rows (isNear s x), and-false)
+
+  pub on-nothing : (p : Asked) (f : Filter) → on s l p f i ≡ false
+  on-nothing p f = on-is s l p f i ∙ rw (no-rows (isOn s p f), and-false)

@@ -14,7 +14,7 @@ use borrow.Author.Tests.{eqb-true, eq-eqb, leb-true, leb-false, le-ltb}
 use Rattle.basics.proofs.Bools.{by-test, clash, both, and-both, or-either, or-true}
 use Rattle.basics.specs.Lists.{all, has}
 use Rattle.basics.specs.Refusals.{Test, refuse, fault, refused, success, answer}
-use Rattle.basics.proofs.Refusals.{fault-left, fault-right, fault-stop}
+use Rattle.basics.proofs.Refusals.{fault-left, fault-right}
 use Rattle.grid_search.specs.declared.GridSearch.{GridSearch}
 use Rattle.table.specs.declared.Row.{Row}
 use Rattle.table.specs.Rows.{idIn}
@@ -32,7 +32,8 @@ use Rattle.independence.specs.Queries.{pass, near, on}
 use Rattle.independence.specs.Claims.{Finding, Writing}
 use Rattle.table.proofs.Libraries.{length-table}
 use Rattle.independence.proofs.Ids.{holds, ids-ascend, ids-no-more}
-use Rattle.independence.proofs.Damage.{clean, clean-fault}
+use Rattle.independence.proofs.Replies.{value-of, refusal-of}
+use Rattle.independence.proofs.Damage.{clean, says, came-later}
 
 -- ---- the lowest id
 
@@ -94,28 +95,17 @@ near-is : (s : GridSearch) (l : Library) (x : List Float) (i : ℕ) → near s l
 unfolding near
 near-is s l x i = refl
 
--- what an answer says of the tests and of the value
-value-of : {A : Type 0} (o : Option ℕ) (a : A) {b : A} → answer o a ≡ success b → (isNone o ≡ true) × (a ≡ b)
-unfolding answer isNone
-value-of none a e = (refl, cc)
-value-of (some n) a e = let z : _≡_ {A = ℕ} 0 1 = cc in absurd (omega arith)
-
-refusal-of : {A : Type 0} (o : Option ℕ) (a : A) {n : ℕ} → answer o a ≡ refused n → isNone o ≡ false
-unfolding answer isNone
-refusal-of none a e = let z : _≡_ {A = ℕ} 0 1 = cc in absurd (omega arith)
-refusal-of (some n) a e = refl
-
 module _ (s : GridSearch) (l : Library) (x : List Float) where
   valued : {o : Option ℕ} → searchAnswer s l x ≡ success o → (pass (searchTests s l x) ≡ true) × (lowest (nearRows s x (table l)) ≡ o)
-  unfolding pass
-  valued e = value-of (fault (searchTests s l x)) (lowest (nearRows s x (table l))) (sym (search-is s l x) ∙ e)
+  unfolding pass isNone
+  valued e = let d = value-of (fault (searchTests s l x)) (lowest (nearRows s x (table l))) (sym (search-is s l x) ∙ e) in (ap isNone (d .0), d .1)
 
   judged : {o : Option ℕ} → searchAnswer s l x ≡ success o → Lowest (nearRows s x (table l)) o
   judged e = subst (Lowest (nearRows s x (table l))) (valued e .1) (lowest-is (nearRows s x (table l)))
 
   turned : {n : ℕ} → searchAnswer s l x ≡ refused n → pass (searchTests s l x) ≡ false
-  unfolding pass
-  turned e = refusal-of (fault (searchTests s l x)) (lowest (nearRows s x (table l))) (sym (search-is s l x) ∙ e)
+  unfolding pass isNone
+  turned e = ap isNone (refusal-of (fault (searchTests s l x)) (lowest (nearRows s x (table l))) (sym (search-is s l x) ∙ e))
 
   held : (i : ℕ) → near s l x i ≡ true → holds i (nearRows s x (table l)) ≡ true
   held i h = and-both (pass (searchTests s l x)) (holds i (nearRows s x (table l))) (sym (near-is s l x i) ∙ h) .1
@@ -147,24 +137,12 @@ before-14 ts b n e f = go (fault ts) refl
     go (some m) g = ap isNone g
 
 -- tests that have no 14 among them do not give it, where the last does not fail
-short : Option ℕ → Bool
-short none = false
-short (some n) = eqb n 14
-
-none-short : short none ≡ false
-unfolding short
-none-short = refl
-
-never-14 : (ts : List Test) (b : Bool) → clean short ts ≡ true → b ≡ false → fault (ts ++ (refuse 14 b ∷ [])) ≡ some 14 → ⊥
-unfolding short fault
-never-14 ts b k f e = go (fault ts) refl (clean-fault short none-short ts k)
+never-14 : (ts : List Test) (b : Bool) → clean (says 14) ts ≡ true → b ≡ false → fault (ts ++ (refuse 14 b ∷ [])) ≡ some 14 → ⊥
+unfolding fault
+never-14 ts b k f e = absurd (Option·some-ne-none 14 (sym e ∙ fault-right ts (refuse 14 b ∷ []) (came-later 14 ts (refuse 14 b ∷ []) k e) ∙ passes))
   where
     passes : fault (refuse 14 b ∷ []) ≡ none
     passes = rw f
-
-    go : (o : Option ℕ) → fault ts ≡ o → short (fault ts) ≡ false → ⊥
-    go none g h = absurd (Option·some-ne-none 14 (sym e ∙ fault-right ts (refuse 14 b ∷ []) g ∙ passes))
-    go (some m) g h = let z : some m ≡ some 14 = sym (fault-stop ts (refuse 14 b ∷ []) m g) ∙ e in clash (ap short z) (ap short (sym g) ∙ h)
 
 pass-left : (us ts : List Test) → fault (us ++ ts) ≡ none → pass us ≡ true
 unfolding pass isNone
@@ -190,8 +168,8 @@ module _ (s : GridSearch) (l : Library) (p : Asked) (f : Filter) (lent : List �
   unfolding idsOn
   listed-no-more = omega (arith, ids-no-more (isOn s p f) (table l), length-table l)
 
-  no-14 : clean short (onTests s l p f) ≡ true
-  unfolding clean all short onTests libraryTests placeTests
+  no-14 : clean (says 14) (onTests s l p f) ≡ true
+  unfolding clean all says onTests libraryTests placeTests
   no-14 = refl
 
   pub writing : Writing s l p f lent

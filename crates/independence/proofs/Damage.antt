@@ -4,11 +4,11 @@ use mathlib.Core.Path.{_≡_, refl, sym, _∙_, ap}
 use mathlib.Core.Bool.{Bool, true, false, not}
 use mathlib.Core.Option.{Option, none, some}
 use mathlib.Core.List.{List, [], _∷_, _++_, append-assoc}
-use lib.Dec.{ltb}
+use lib.Dec.{ltb, eqb}
 use lib.ListN.{length}
 use lib.Ieee.{Float}
-use borrow.Author.Tests.{not-true}
-use Rattle.basics.proofs.Bools.{by-test, both, and-both}
+use borrow.Author.Tests.{eq-eqb, not-true}
+use Rattle.basics.proofs.Bools.{by-test, clash, both, and-both}
 use Rattle.basics.specs.Lists.{all}
 use Rattle.basics.specs.Refusals.{Test, refuse, fault, answer}
 use Rattle.basics.proofs.Refusals.{fault-right, fault-stop}
@@ -16,12 +16,13 @@ use Rattle.grid_search.specs.declared.GridSearch.{GridSearch}
 use Rattle.table.specs.Library.{Library, table, space}
 use Rattle.rows.specs.Damage.{libraryTests}
 use Rattle.rows.specs.Insert.{positionTests, roomTests}
+use Rattle.strike.specs.Strike.{idTests}
 use Rattle.search.specs.Search.{searchTests, searchAnswer, chosen, nearRows}
 use Rattle.listing.specs.declared.Filter.{Filter}
 use Rattle.listing.specs.Place.{Asked, placeTests}
 use Rattle.listing.specs.Listing.{idsOn, occupied, onTests, listingTests, listing}
 use Rattle.basics.specs.Filled.{fill}
-use Rattle.independence.specs.Run.{Change, insert, Call, change, search, list, Reply, step, refusalIn, refusal, run, replies}
+use Rattle.independence.specs.Run.{Change, insert, strike, Call, change, search, list, Reply, step, refusalIn, refusal, run, replies}
 use Rattle.independence.specs.Claims.{blames}
 use Rattle.independence.proofs.Changes.{changeTests, ownTests, step-done, step-refused, changed-space, changed-passes}
 use Rattle.independence.proofs.Runs.{kept}
@@ -44,6 +45,20 @@ clean-fault meant z [] e = z
 clean-fault meant z (t ∷ ts) e =
     let d = and-both (not (meant (some (t .number)))) (clean meant ts) e in
     by-test (t .fails) (λ f. rw f (not-true (meant (some (t .number))) (d .0))) (λ f. rw f (clean-fault meant z ts (d .1)))
+
+-- the number is k
+unfoldable pub says : ℕ → Option ℕ → Bool
+says k none = false
+says k (some n) = eqb n k
+
+-- where k came of tests the first of which have not that number, none of these failed
+pub came-later : (k : ℕ) (us ts : List Test) → clean (says k) us ≡ true → fault (us ++ ts) ≡ some k → fault us ≡ none
+unfolding says
+came-later k us ts c e = go (fault us) refl (clean-fault (says k) refl us c)
+  where
+    go : (o : Option ℕ) → fault us ≡ o → says k (fault us) ≡ false → fault us ≡ none
+    go none g h = g
+    go (some n) g h = clash (ap (says k) (sym (fault-stop us ts n g) ∙ e) ∙ eq-eqb k k refl) (ap (says k) (sym g) ∙ h)
 
 none-blamed : blames none ≡ false
 unfolding blames
@@ -76,8 +91,9 @@ module _ (s : GridSearch) (l : Library) where
 
 -- a clause for each kind of change
 clean-change : (s : GridSearch) (l : Library) (c : Change) → clean blames (ownTests s l c) ≡ true
-unfolding clean all ownTests positionTests roomTests blames
+unfolding clean all ownTests positionTests roomTests idTests blames
 clean-change s l (insert i x) = refl
+clean-change s l (strike i) = refl
 
 clean-position : (s : GridSearch) (x : List Float) (looked : List (List Float)) → clean blames (positionTests s x looked) ≡ true
 unfolding clean all positionTests blames

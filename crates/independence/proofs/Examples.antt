@@ -1,4 +1,4 @@
--- A run on document 01's sheet S, evaluated: ids 6, 7 and 8, refused calls, and the history of 7 alone in another library.
+-- Runs on document 01's sheet S, evaluated: ids 6, 7 and 8, refused calls, strikings, and the history of 7 alone in another library.
 use Prim.Native.Nat.{ℕ}
 use mathlib.Core.Path.{_≡_, refl}
 use mathlib.Core.Bool.{Bool, true, false}
@@ -18,7 +18,7 @@ use Rattle.table.specs.Rows.{keyIn, before, same}
 use Rattle.table.specs.Library.{Library, table}
 use Rattle.listing.specs.declared.Filter.the-variants.{Everything}
 use Rattle.listing.specs.Place.{Asked, line}
-use Rattle.independence.specs.Run.{Change, insert, Call, change, search, list, counted, found, listed, run, replies}
+use Rattle.independence.specs.Run.{Change, insert, strike, Call, change, search, list, counted, found, listed, run, replies}
 use Rattle.independence.specs.Histories.{history}
 use Rattle.independence.specs.Queries.{near, on}
 use Rattle.independence.specs.Claims.{replay}
@@ -116,7 +116,7 @@ keys-alone = refl
 
 -- 7 is near (2,1) and on the line in both, though search now names 6
 asked : Library → List Bool
-unfolding near on upright
+unfolding near on upright pinched
 asked m = near S m (pow2 1 ∷ pow2 0 ∷ []) 7 ∷ on S m upright Everything 7 ∷ near S m (fin false 3 (pos 0) ∷ pow2⁻ 1 ∷ []) 7 ∷ on S m pinched Everything 7 ∷ []
 
 both : asked (run S l calls) ≡ true ∷ true ∷ false ∷ false ∷ []
@@ -126,3 +126,64 @@ both = refl
 alone : asked (run S l′ (replay 7 S l calls)) ≡ true ∷ true ∷ false ∷ false ∷ []
 unfolding asked run history S l l′ calls add sub mul div ofInt toUnsigned within before same
 alone = refl
+
+-- ---- a run with strikings: 7 is struck off, and later inserted again
+
+retired : List Call
+unfolding six seven seven-again eight
+retired =
+    change (strike 7)
+    ∷ change seven
+    ∷ change six
+    ∷ change (strike 7)
+    ∷ search (pow2 1 ∷ pow2 0 ∷ [])
+    ∷ change (strike 7)
+    ∷ change eight
+    ∷ change seven-again
+    ∷ change (strike 6)
+    ∷ search (pow2 1 ∷ pow2 0 ∷ [])
+    ∷ []
+
+-- 26 where 7 has no row, at first and once it is struck off; 4 rows of it went, and 4 of 6, after which nothing is near (2,1)
+retired-replies : replies S l retired
+    ≡ counted (refused 26)
+    ∷ counted (success 4)
+    ∷ counted (success 8)
+    ∷ counted (success 4)
+    ∷ found (success (some 6))
+    ∷ counted (refused 26)
+    ∷ counted (success 5)
+    ∷ counted (success 6)
+    ∷ counted (success 4)
+    ∷ found (success none)
+    ∷ []
+unfolding replies S l retired add sub mul div ofInt toUnsigned within before same
+retired-replies = refl
+
+-- the accepted striking is part of the history, and the refused ones are not
+retired-history : history 7 S l retired ≡ seven ∷ strike 7 ∷ seven-again ∷ []
+unfolding history S l retired add sub mul div ofInt toUnsigned within before same
+retired-history = refl
+
+-- what is left: 8 in container 2 and 7 in 21; and 7 alone, in the library that was given its history
+retired-keys : map keyIn (table (run S l retired)) ≡ 2 ∷ 21 ∷ []
+unfolding run table S l retired add sub mul div ofInt toUnsigned within before same
+retired-keys = refl
+
+retired-alone : map keyIn (table (run S l′ (replay 7 S l retired))) ≡ 21 ∷ []
+unfolding run table history S l l′ retired add sub mul div ofInt toUnsigned within before same
+retired-alone = refl
+
+-- which accepted each of it
+replayed : replies S l′ (replay 7 S l retired) ≡ counted (success 4) ∷ counted (success 4) ∷ counted (success 1) ∷ []
+unfolding replies history S l l′ retired add sub mul div ofInt toUnsigned within before same
+replayed = refl
+
+-- 7 is not near (2,1) any more, nor on the line, in either
+gone : asked (run S l retired) ≡ false ∷ false ∷ false ∷ false ∷ []
+unfolding asked run S l retired add sub mul div ofInt toUnsigned within before same
+gone = refl
+
+gone-alone : asked (run S l′ (replay 7 S l retired)) ≡ false ∷ false ∷ false ∷ false ∷ []
+unfolding asked run history S l l′ retired add sub mul div ofInt toUnsigned within before same
+gone-alone = refl

@@ -5,6 +5,7 @@ use mathlib.Core.Bool.{Bool, true, false, cond}
 use mathlib.Core.Option.{Option, none, some}
 use mathlib.Core.List.{List, [], _∷_, map}
 use lib.Dec.{eqb}
+use borrow.Author.Tests.{eq-eqb, eqb-true}
 use Rattle.basics.proofs.Bools.{by-test}
 use Rattle.basics.specs.Lists.{has}
 use Rattle.basics.specs.Refusals.{fault}
@@ -12,10 +13,10 @@ use Rattle.geometry.specs.Position.{positionOf}
 use Rattle.grid_search.specs.declared.GridSearch.{GridSearch}
 use Rattle.table.specs.declared.Row.{Row}
 use Rattle.table.specs.Rows.{Slot, slotOf, sorted, rowFor, rowIn, own}
-use Rattle.table.proofs.Ids.{rowFor-putIn, rowFor-own}
+use Rattle.table.proofs.Ids.{rowFor-putIn, rowFor-own, rowFor-without}
 use Rattle.table.specs.Library.{Library, table}
 use Rattle.rows.specs.Insert.{targets, rowsWith}
-use Rattle.independence.specs.Run.{Change, insert, Call, change, search, list, step, run}
+use Rattle.independence.specs.Run.{Change, insert, strike, Call, change, search, list, step, run}
 use Rattle.independence.specs.Histories.{whose, history, effect, built, placing, placed}
 use Rattle.independence.specs.Claims.{standing}
 use Rattle.independence.proofs.Changes.{changeTests, changed, other-effect, own-effect, effect-order, changed-table}
@@ -52,6 +53,10 @@ unfolding standing
 standing-cond true r o = refl
 standing-cond false r o = refl
 
+standing-none : {o : Option Row} → o ≡ none → standing o ≡ none
+unfolding standing
+standing-none e = ap standing e
+
 module _ (p : Slot) (s : GridSearch) where
   -- a clause for each kind of change
   own-slot : (c : Change) (rows : List Row) → eqb (whose c) (p .id) ≡ true → standing (rowFor p (effect s c rows)) ≡ placing s (p .key) c (standing (rowFor p rows))
@@ -59,6 +64,7 @@ module _ (p : Slot) (s : GridSearch) where
   own-slot (insert i x) rows e =
       ap standing (rowFor-putIn i (positionOf x) (targets s x) rows p)
       ∙ rw e (standing-cond (has (p .key) (targets s x)) (rowIn i (positionOf x) (p .key)) (rowFor p rows))
+  own-slot (strike i) rows e = standing-none (rowFor-without i p rows ∙ rw (eq-eqb (p .id) i (sym (eqb-true i (p .id) e))))
 
   other-slot : (c : Change) (rows : List Row) → eqb (whose c) (p .id) ≡ false → rowFor p (effect s c rows) ≡ rowFor p rows
   other-slot c rows e = rowFor-own p (effect s c rows) ∙ ap (rowFor p) (other-effect s (p .id) c rows e) ∙ sym (rowFor-own p rows)

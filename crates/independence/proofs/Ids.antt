@@ -9,9 +9,10 @@ use lib.ListN.{length, length-map}
 use borrow.Author.Tests.{eqb-true}
 use Rattle.basics.proofs.Bools.{by-test, clash}
 use Rattle.basics.specs.Lists.{keep, has, enter}
-use Rattle.basics.proofs.Lists.{length-keep}
+use Rattle.basics.proofs.Lists.{length-keep, keep-keep}
 use Rattle.table.specs.declared.Row.{Row}
 use Rattle.table.specs.Rows.{idIn, own}
+use Rattle.table.proofs.Ids.{has-own}
 use Rattle.sorting.specs.Ascent.{ascending}
 use Rattle.sorting.specs.Sorted.{distinct}
 use Rattle.sorting.proofs.Ascent.{distinct-ascending, distinct-length}
@@ -47,11 +48,8 @@ has-ids i p rows = has-distinct i (map idIn (keep p rows))
 
 -- and so among its own rows
 pub holds-own : (i : ℕ) (p : Row → Bool) (rows : List Row) → holds i (keep p rows) ≡ holds i (keep p (own i rows))
-unfolding has keep own
-holds-own i p [] = refl
-holds-own i p (r ∷ rows) =
-    let ih = holds-own i p rows in
-    by-test (p r) (λ e. by-test (eqb (idIn r) i) (λ f. rw (e, f, e, f)) (λ f. rw (e, f, ih))) (λ e. by-test (eqb (idIn r) i) (λ f. rw (e, f, e, ih)) (λ f. rw (e, f, ih)))
+unfolding own
+holds-own i p rows = has-own i (keep p rows) ∙ ap (holds i) (keep-keep (λ (r : Row). eqb (idIn r) i) p rows)
 
 -- no id is there where there is no row, and where an id has a row, there is one
 pub none-there : (i : ℕ) (p : Row → Bool) (rows : List Row) → occupied rows ≡ false → holds i (keep p rows) ≡ false

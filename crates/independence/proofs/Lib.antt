@@ -1,4 +1,4 @@
--- The proof of demand 3. `Theorems` has a proof of each claim of specs/Claims.antt; `Independent` is its heart; `Examples` evaluates a run.
+-- The proof of demand 3. `Theorems` has a proof of each claim of specs/Claims.antt; `Independent` is its heart; `Examples` evaluates two runs.
 pub mod Ids
 pub mod Changes
 pub mod Replies
@@ -8,5 +8,6 @@ pub mod Alike
 pub mod Histories
 pub mod Damage
 pub mod Answers
+pub mod Room
 pub mod Theorems
 pub mod Examples

@@ -1,18 +1,20 @@
 -- The reply of a library that passes 24 and 13 depends on its rows in use and its space alone, not on what its lists hold past the used count.
 use Prim.Native.Nat.{ℕ}
+use native.Mathlib.Omega.{arith}
 use mathlib.Core.Path.{_≡_, refl, sym, _∙_, ap, ap₂}
 use mathlib.Core.Option.{Option, none, some}
 use mathlib.Core.List.{List, [], _∷_, _++_, append-assoc}
 use lib.Dec.{ltb}
 use lib.ListN.{length}
 use lib.Ieee.{Float}
-use Rattle.basics.specs.Refusals.{Test, refuse, fault, answer}
+use Rattle.basics.specs.Refusals.{Test, refuse, fault, refused, success, answer}
 use Rattle.basics.proofs.Refusals.{fault-right}
 use Rattle.grid_search.specs.declared.GridSearch.{GridSearch}
 use Rattle.table.specs.declared.Row.{Row}
 use Rattle.table.specs.Library.{Library, table, space}
 use Rattle.rows.specs.Damage.{libraryTests}
-use Rattle.rows.specs.Insert.{Turn, positionTests, settle}
+use Rattle.rows.specs.Turn.{Turn, settle}
+use Rattle.rows.specs.Insert.{positionTests}
 use Rattle.search.specs.Search.{nearRows, chosen, searchTests, searchAnswer}
 use Rattle.listing.specs.declared.Filter.{Filter}
 use Rattle.listing.specs.Place.{Asked, isOn, placeTests}
@@ -26,6 +28,25 @@ unfolding settle answer
 settled none a new old = refl
 settled (some n) a new old = refl
 
+-- what an answer says of the tests and of the value
+pub value-of : {A : Type 0} (o : Option ℕ) (a : A) {b : A} → answer o a ≡ success b → (o ≡ none) × (a ≡ b)
+unfolding answer
+value-of none a e = (refl, cc)
+value-of (some n) a e = let z : _≡_ {A = ℕ} 0 1 = cc in absurd (omega arith)
+
+pub refusal-of : {A : Type 0} (o : Option ℕ) (a : A) {n : ℕ} → answer o a ≡ refused n → o ≡ some n
+unfolding answer
+refusal-of none a {n} e = let z : _≡_ {A = ℕ} 0 1 = cc in absurd (omega arith)
+refusal-of (some m) a {n} e = let z : m ≡ n = cc in ap some z
+
+-- a change's tests decide its answer, and so its reply
+by-tests : (s : GridSearch) (l : Library) (c : Change) → changing s l c .answer ≡ answer (fault (changeTests s l c)) (counting s c (table l))
+by-tests s l c = ap (λ (t : Turn ℕ). t .answer) (changing-is s l c) ∙ settled (fault (changeTests s l c)) (counting s c (table l)) (changed s l c) l
+
+pub reply-is : (s : GridSearch) (l : Library) (c : Change) → step s l (change c) .reply ≡ counted (answer (fault (changeTests s l c)) (counting s c (table l)))
+unfolding step
+reply-is s l c = ap counted (by-tests s l c)
+
 -- a listing by the rows
 listReply : GridSearch → List Row → Asked → Filter → List ℕ → Filled
 listReply s rows p f lent =
@@ -38,10 +59,7 @@ module _ (s : GridSearch) (l : Library) (v : fault (libraryTests s l) ≡ none) 
 
   change-is : (c : Change) → changing s l c .answer ≡ answer (fault (ownTests s l c)) (counting s c (table l))
   unfolding changeTests
-  change-is c =
-      ap (λ (t : Turn ℕ). t .answer) (changing-is s l c)
-      ∙ settled (fault (changeTests s l c)) (counting s c (table l)) (changed s l c) l
-      ∙ ap (λ (o : Option ℕ). answer o (counting s c (table l))) (own-decide (ownTests s l c))
+  change-is c = by-tests s l c ∙ ap (λ (o : Option ℕ). answer o (counting s c (table l))) (own-decide (ownTests s l c))
 
   search-is : (x : List Float) → searchAnswer s l x ≡ answer (fault (positionTests s x (x ∷ []))) (chosen s x (nearRows s x (table l)))
   unfolding searchAnswer searchTests

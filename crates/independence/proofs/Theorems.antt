@@ -17,7 +17,7 @@ use Rattle.rows.proofs.Check.{whole}
 use Rattle.rows.proofs.Kept.{empty-passes, empty-too}
 use Rattle.independence.specs.Run.{Change, step, isNone, run, replies}
 use Rattle.independence.specs.Histories.{history, built, placed}
-use Rattle.independence.specs.Claims.{Empty, replay, Alike, Independence, Unmoved, Permanence, Soundness, Start, standing, Rows, Answers, Meaning}
+use Rattle.independence.specs.Claims.{Empty, replay, Alike, Independence, Unmoved, Permanence, Soundness, Start, standing, Rows, Answers, Meaning, Freeing, Vanishing}
 use Rattle.independence.specs.Queries.{pass}
 use Rattle.independence.proofs.Replies.{same-reply}
 use Rattle.independence.proofs.Runs.{stays, no-history, run-two, replies-two}
@@ -26,6 +26,7 @@ use Rattle.independence.proofs.Alike.{same-near, same-on}
 use Rattle.independence.proofs.Histories.{order-kept, made, placed-last}
 use Rattle.independence.proofs.Damage.{space-kept, tests-kept, blameless-run, refused-step}
 use Rattle.independence.proofs.Answers.{finding, writing}
+use Rattle.independence.proofs.Room.{freed, vanished}
 
 -- ---- empty libraries
 
@@ -129,3 +130,13 @@ answered s l e before c after = record {
 
 pub meaning : Meaning
 meaning s l = (finding s l, writing s l)
+
+-- ---- 7
+
+pub freeing : Freeing
+freeing = freed
+
+-- ---- 8
+
+pub vanishing : Vanishing
+vanishing = vanished

@@ -1,6 +1,7 @@
--- Demand 3, clause by clause: what is claimed of every list of calls. `proofs/Theorems.antt` has a proof of each claim. Words in quotes are document 01's.
+-- Demand 3, clause by clause: what is claimed of every list of calls, insertions and strikings among them; and what a striking frees.
+-- `proofs/Theorems.antt` has a proof of each claim. Words in quotes are document 01's or, of a striking, document 02's.
 -- Assumes nothing.
-use Prim.Native.Nat.{ℕ, _≤_}
+use Prim.Native.Nat.{ℕ, _+_, _≤_}
 use mathlib.Core.Path.{_≡_}
 use mathlib.Core.Bool.{Bool, true, false, not, _||_}
 use mathlib.Core.Option.{Option, none, some}
@@ -15,14 +16,15 @@ use Rattle.grid_search.specs.declared.GridSearch.{GridSearch}
 use Rattle.grid_search.specs.Sheet.{sheetOk}
 use Rattle.table.specs.declared.Row.{Row}
 use Rattle.table.specs.Rows.{Slot, slotOf, sorted, rowFor, own}
-use Rattle.table.specs.Library.{Library, table, space, tooLong, level}
+use Rattle.table.specs.Library.{Library, table, space, tooLong, level, roomy}
 use Rattle.rows.specs.Damage.{libraryTests}
+use Rattle.rows.specs.Insert.{rowsWith}
 use Rattle.search.specs.Search.{searchAnswer}
 use Rattle.sorting.specs.Ascent.{ascending}
 use Rattle.listing.specs.declared.Filter.{Filter}
 use Rattle.listing.specs.Place.{Asked}
 use Rattle.listing.specs.Listing.{idsOn, listing}
-use Rattle.independence.specs.Run.{Call, change, Reply, step, refusal, accepted, run, replies}
+use Rattle.independence.specs.Run.{insert, strike, Call, change, Reply, counted, step, refusal, accepted, run, replies}
 use Rattle.independence.specs.Histories.{history, others, built, placed}
 use Rattle.independence.specs.Queries.{near, on}
 
@@ -38,7 +40,7 @@ replay i s l calls = map change (history i s l calls)
 
 -- the id i in the library l after all the calls, and in the library l′ after the history of i alone
 pub record Alike (s : GridSearch) (l l′ : Library) (calls : List Call) (i : ℕ) : Type 0 where
-  -- l′ accepts each insertion of the history
+  -- l′ accepts each insertion and striking of the history
   pub accepts : all accepted (replies s l′ (replay i s l calls)) ≡ true
   -- its rows are then those that l has of i
   pub rows : table (run s l′ (replay i s l calls)) ≡ own i (table (run s l calls))
@@ -97,7 +99,8 @@ pub record OfHistories (s : GridSearch) (l : Library) (calls : List Call) : Type
   pub order : sorted (map slotOf (table (run s l calls))) ≡ true
   -- those of an id are the rows that its history makes of none
   pub of-id : (i : ℕ) → own i (table (run s l calls)) ≡ built s (history i s l calls) []
-  -- which is: "each insertion of its history sets the id's row, in every container where module 6 puts the mark, to that insertion's coordinates"
+  -- which is: "each insertion of its history sets the id's row, in every container where module 6 puts the mark, to that insertion's coordinates",
+  -- and each striking of it leaves the id no row
   pub of-slot : (p : Slot) → standing (rowFor p (table (run s l calls))) ≡ placed s (p .key) (history (p .id) s l calls) none
   -- and there are no other rows: they are the only ones in strict order of which that holds
   pub only : (rows : List Row) → sorted (map slotOf rows) ≡ true → ((i : ℕ) → own i rows ≡ built s (history i s l calls) []) → rows ≡ table (run s l calls)
@@ -143,3 +146,37 @@ pub record Writing (s : GridSearch) (l : Library) (p : Asked) (f : Filter) (lent
 
 abbrev pub Meaning : Type 0
 Meaning = (s : GridSearch) (l : Library) → ((x : List Float) → Finding s l x) × ((p : Asked) (f : Filter) (lent : List ℕ) → Writing s l p f lent)
+
+-- ---- 7. Striking "frees their room for later insertions": what had no room is accepted once it has
+
+-- The insertion of j at x had no room in l; m is what is left of l once i is struck off and n rows have gone.
+pub record Freed (s : GridSearch) (l m : Library) (i n j : ℕ) (x : List Float) : Type 0 where
+  -- n rows more are free, in the space that was lent
+  pub as-lent : space m ≡ space l
+  pub more-free : m .used + n ≡ l .used
+  -- where the rows as the insertion would leave them have room now, it is accepted, and answers their number
+  pub accepts : roomy (space l) (rowsWith s j x (table m)) ≡ true → step s m (change (insert j x)) .reply ≡ counted (success (length (rowsWith s j x (table m))))
+  -- where they have none, it is refused with 12 again: nothing else turns it away
+  pub refuses : roomy (space l) (rowsWith s j x (table m)) ≡ false → step s m (change (insert j x)) .reply ≡ counted (refused 12)
+  -- those rows are n fewer than in l, for another id: so it is accepted exactly where at most n rows were wanting
+  pub needs-less : eqb j i ≡ false → length (rowsWith s j x (table m)) + n ≡ length (rowsWith s j x (table l))
+
+-- in any library, empty or not
+abbrev pub Freeing : Type 0
+Freeing = (s : GridSearch) (l : Library) (i n j : ℕ) (x : List Float)
+    → step s l (change (strike i)) .reply ≡ counted (success n)
+    → step s l (change (insert j x)) .reply ≡ counted (refused 12)
+    → Freed s l (step s l (change (strike i)) .library) i n j x
+
+-- ---- 8. "its number must vanish from the catalogue"
+
+-- the id has no row, is near no position and on no place
+pub record Vanished (s : GridSearch) (m : Library) (i : ℕ) : Type 0 where
+  pub no-row : own i (table m) ≡ []
+  pub near-nothing : (x : List Float) → near s m x i ≡ false
+  pub on-nothing : (p : Asked) (f : Filter) → on s m p f i ≡ false
+
+-- once it is struck off, in any library, empty or not
+abbrev pub Vanishing : Type 0
+Vanishing = (s : GridSearch) (l : Library) (i n : ℕ) → step s l (change (strike i)) .reply ≡ counted (success n)
+    → Vanished s (step s l (change (strike i)) .library) i

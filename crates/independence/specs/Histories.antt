@@ -2,7 +2,7 @@
 -- Assumes nothing.
 use Prim.Native.Nat.{ℕ}
 use mathlib.Core.Bool.{Bool, true, cond, not, _&&_}
-use mathlib.Core.Option.{Option, some}
+use mathlib.Core.Option.{Option, none, some}
 use mathlib.Core.List.{List, [], _∷_}
 use lib.Dec.{eqb}
 use Rattle.basics.specs.Lists.{all, has}
@@ -10,15 +10,17 @@ use Rattle.geometry.specs.declared.Position.{Position}
 use Rattle.geometry.specs.Position.{positionOf}
 use Rattle.grid_search.specs.declared.GridSearch.{GridSearch}
 use Rattle.table.specs.declared.Row.{Row}
+use Rattle.table.specs.Rows.{without}
 use Rattle.table.specs.Library.{Library}
 use Rattle.rows.specs.Insert.{targets, rowsWith}
-use Rattle.independence.specs.Run.{Change, insert, Call, change, search, list, step, accepted}
+use Rattle.independence.specs.Run.{Change, insert, strike, Call, change, search, list, step, accepted}
 
 -- the id whose rows a change is about
 unfoldable pub whose : Change → ℕ
 whose (insert i x) = i
+whose (strike i) = i
 
--- "An id's history is its accepted insertions in order"
+-- An id's history is its accepted insertions and strikings in order.
 unfoldable pub history : ℕ → GridSearch → Library → List Call → List Change
 unfolding whose step accepted
 history i s l [] = []
@@ -42,10 +44,11 @@ others i calls = all (other i) calls
 
 -- ---- the rows of a history
 
--- the rows after a change that is accepted: module 6
+-- the rows after a change that is accepted: module 6, and a striking leaves the id no row
 unfoldable pub effect : GridSearch → Change → List Row → List Row
-unfolding rowsWith
+unfolding rowsWith without
 effect s (insert i x) rows = rowsWith s i x rows
+effect s (strike i) rows = without i rows
 
 -- the rows after these changes, one after the other
 unfoldable pub built : GridSearch → List Change → List Row → List Row
@@ -54,10 +57,12 @@ built s [] rows = rows
 built s (c ∷ changes) rows = built s changes (effect s c rows)
 
 -- The same container by container: "each insertion of its history sets the id's row, in every container where module 6 puts the mark, to that insertion's coordinates".
+-- A striking sets it to none.
 -- Where the id stands in the container of a key after a change of it, and before that change:
 unfoldable pub placing : GridSearch → ℕ → Change → Option Position → Option Position
 unfolding has targets
 placing s key (insert i x) at = cond (has key (targets s x)) (some (positionOf x)) at
+placing s key (strike i) at = none
 
 unfoldable pub placed : GridSearch → ℕ → List Change → Option Position → Option Position
 unfolding placing

@@ -1,4 +1,4 @@
--- Calls on a library, one after the other. Each is answered by the definition that the contract of its function cites: `insertion`, `searchAnswer`, `listing`.
+-- Calls on a library, one after the other. Each is answered by the definition that the contract of its function cites: `insertion`, `striking`, `searchAnswer`, `listing`.
 -- Assumes nothing.
 use Prim.Native.Nat.{ℕ}
 use mathlib.Core.Bool.{Bool, true, false}
@@ -8,16 +8,19 @@ use lib.Ieee.{Float}
 use Rattle.basics.specs.Refusals.{Answer, refused, success}
 use Rattle.grid_search.specs.declared.GridSearch.{GridSearch}
 use Rattle.table.specs.Library.{Library}
-use Rattle.rows.specs.Insert.{Turn, insertion}
+use Rattle.rows.specs.Turn.{Turn}
+use Rattle.rows.specs.Insert.{insertion}
+use Rattle.strike.specs.Strike.{striking}
 use Rattle.search.specs.Search.{searchAnswer}
 use Rattle.listing.specs.declared.Filter.{Filter}
 use Rattle.listing.specs.Place.{Asked}
 use Rattle.listing.specs.Listing.{listing}
 use Rattle.basics.specs.Filled.{Filled}
 
--- a call that changes rows, and only rows of one id: an insertion of that id at a position
+-- a call that changes rows, and only rows of one id: an insertion of that id at a position, or its striking
 pub data Change : Type 0 where
   insert : ℕ → List Float → Change
+  strike : ℕ → Change
 
 -- a call with all that is handed to it: a listing is lent a list to write ids into
 pub data Call : Type 0 where
@@ -25,7 +28,7 @@ pub data Call : Type 0 where
   search : List Float → Call
   list : Asked → Filter → List ℕ → Call
 
--- what a call gives back: of a change, a number of rows; of a listing, what it leaves in the lent list too
+-- what a call gives back: of an insertion, the number of rows in use; of a striking, that of the rows that went; of a listing, what it leaves in the lent list too
 pub data Reply : Type 0 where
   counted : Answer ℕ → Reply
   found : Answer (Option ℕ) → Reply
@@ -40,8 +43,9 @@ pub record Step : Type 0 where
 
 -- what a change answers and leaves
 unfoldable pub changing : GridSearch → Library → Change → Turn ℕ
-unfolding insertion
+unfolding insertion striking
 changing s l (insert i x) = insertion s l i x
+changing s l (strike i) = striking s l i
 
 unfoldable pub step : GridSearch → Library → Call → Step
 unfolding changing searchAnswer listing
