@@ -1,4 +1,4 @@
-/* Insertion, search and listing on libraries of every length up to 128, of 65,536 and of 65,537 rows, in 2D and 3D, with
+/* Insertion, striking, search and listing on libraries of every length up to 128, of 65,536 and of 65,537 rows, in 2D and 3D, with
    every used count up to one above the length. Each list that is lent ends where memory ends, or begins where it begins:
    pages that may not be touched stand on both sides of it. A refusal has to leave every byte as it was. */
 #define _DEFAULT_SOURCE
@@ -12,6 +12,7 @@
 #define MOST 65536
 #define LISTS 5
 #define NEW_ID (UINT64_C(1) << 40)
+#define CONTAINERS 10000 /* in 2D */
 
 /* n entries of 8 bytes, at the area's end or at its start. */
 static void *entries(const struct area *area, size_t n, int at_end)
@@ -100,6 +101,16 @@ static uint64_t insert(struct library *l, uint64_t id, const double *x, size_t x
     return number;
 }
 
+static uint64_t strike(struct library *l, uint64_t id, uint64_t *removed)
+{
+    uint64_t number = gemlab_grid_search_strike(numbers, GEMLAB_SHEET_NUMBERS, floats, GEMLAB_SHEET_FLOATS,
+                                                l->list[0], l->len[0], l->list[1], l->len[1], l->list[2], l->len[2],
+                                                l->list[3], l->len[3], l->list[4], l->len[4], &l->used, id, removed);
+    calls++;
+    refusals[number]++;
+    return number;
+}
+
 static uint64_t search(const struct library *l, const double *x, size_t x_len, uint64_t *found, uint64_t *id)
 {
     uint64_t number = gemlab_grid_search_search(numbers, GEMLAB_SHEET_NUMBERS, floats, GEMLAB_SHEET_FLOATS,
@@ -183,6 +194,80 @@ static void calls_on(size_t dim, size_t len, uint64_t used, int at_end, double a
     }
 }
 
+/* The rows in use shared out in turn among so many marks, each row with coordinates of its own. */
+static void share(struct library *library, size_t dim, uint64_t marks)
+{
+    uint64_t i;
+
+    for (i = 0; i < library->used && i < library->len[0]; i++) {
+        uint64_t key = marks == 1 ? i : i / 8, id = i % marks;
+        double x = (double)i / 1024, y = x + 128, z = dim == 2 ? 0 : x - 128;
+
+        memcpy((char *)library->list[0] + 8 * i, &key, 8);
+        memcpy((char *)library->list[1] + 8 * i, &id, 8);
+        memcpy((char *)library->list[2] + 8 * i, &x, 8);
+        memcpy((char *)library->list[3] + 8 * i, &y, 8);
+        memcpy((char *)library->list[4] + 8 * i, &z, 8);
+    }
+}
+
+/* Makes what the lists held what they are to hold after a striking: the rows of others in their order, and then zeros. Returns
+   how many rows go. */
+static uint64_t close_up(size_t len, uint64_t used, uint64_t id)
+{
+    uint64_t i, left = 0;
+    size_t j;
+
+    for (i = 0; i < used; i++) {
+        if (memcmp(before[1] + 8 * i, &id, 8) != 0) {
+            for (j = 0; j < LISTS; j++) {
+                memmove(before[j] + 8 * left, before[j] + 8 * i, 8);
+            }
+            left++;
+        }
+    }
+    for (j = 0; j < LISTS; j++) {
+        memset(before[j] + 8 * left, 0, 8 * (len - left));
+    }
+    return used - left;
+}
+
+/* Strikings of one of so many marks: of its rows, then of none, and then the room that is free again is taken. */
+static void strike_on(size_t dim, size_t len, uint64_t used, int at_end, uint64_t marks, uint64_t id)
+{
+    static const double at[3] = {97.5, 97.5, 97.5};
+    struct library library = fill(len, used, at_end);
+    uint64_t number, wanted = expected(len, used, 0), went = 0;
+    uint64_t *removed = entries(&listed, 1, at_end);
+
+    share(&library, dim, marks);
+    keep(&library);
+    if (wanted == GEMLAB_DONE) {
+        if (id < marks && id < used) {
+            went = close_up(len, used, id);
+        } else {
+            wanted = GEMLAB_NO_ROW;
+        }
+    }
+    *removed = 9;
+    number = strike(&library, id, removed);
+    if (number != wanted || !kept(&library, 0) || library.used != used - went || *removed != (number == 0 ? went : 9)) {
+        fail("strike", dim, len, used, number);
+    }
+    if (number != 0) {
+        return;
+    }
+    *removed = 9;
+    number = strike(&library, id, removed);
+    if (number != GEMLAB_NO_ROW || !kept(&library, 0) || library.used != used - went || *removed != 9) {
+        fail("strike again", dim, len, used, number);
+    }
+    number = insert(&library, NEW_ID, at, dim);
+    if (number != 0 || !kept(&library, (size_t)(used - went + 1)) || library.used != used - went + 1) {
+        fail("insert after a striking", dim, len, used, number);
+    }
+}
+
 /* One of the five lists is a row shorter. */
 static void unequal(size_t dim, size_t len, uint64_t used, int at_end)
 {
@@ -194,7 +279,8 @@ static void unequal(size_t dim, size_t len, uint64_t used, int at_end)
     }
     for (j = 0; j < LISTS; j++) {
         struct library library = fill(len, used, at_end);
-        uint64_t number, found = 2, id = 5, count = 9, one = 3, wanted = len > MOST ? GEMLAB_TOO_LONG : GEMLAB_DAMAGED;
+        uint64_t number, found = 2, id = 5, count = 9, one = 3, removed = 9;
+        uint64_t wanted = len > MOST ? GEMLAB_TOO_LONG : GEMLAB_DAMAGED;
 
         library.len[j] = len - 1;
         if (at_end) {
@@ -204,6 +290,10 @@ static void unequal(size_t dim, size_t len, uint64_t used, int at_end)
         number = insert(&library, NEW_ID, x, dim);
         if (number != wanted || !kept(&library, 0) || library.used != used) {
             fail("insert, unequal", dim, len, used, number);
+        }
+        number = strike(&library, 0, &removed);
+        if (number != wanted || !kept(&library, 0) || library.used != used || removed != 9) {
+            fail("strike, unequal", dim, len, used, number);
         }
         number = search(&library, x, dim, &found, &id);
         if (number != wanted || !kept(&library, 0) || found != 2 || id != 5) {
@@ -225,6 +315,16 @@ static void one_length(size_t dim, size_t len, uint64_t used)
         /* in the middle of a container, and where four or eight meet */
         calls_on(dim, len, used, at_end, 97.5, 1);
         calls_on(dim, len, used, at_end, 97, corners);
+        /* the first and the last row of each container, and of all; a mark that has no row; one that has every row, where there
+           are as many containers */
+        strike_on(dim, len, used, at_end, 8, 0);
+        strike_on(dim, len, used, at_end, 8, 7);
+        strike_on(dim, len, used, at_end, used + 1, 0);
+        strike_on(dim, len, used, at_end, used + 1, used - 1);
+        strike_on(dim, len, used, at_end, used + 1, used);
+        if (dim == 3 || used <= CONTAINERS) {
+            strike_on(dim, len, used, at_end, 1, 0);
+        }
         if (len > 0) {
             unequal(dim, len, used, at_end);
         }

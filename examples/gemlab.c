@@ -79,6 +79,16 @@ static double xs[8], ys[8], zs[8];
 static uint64_t sheet_numbers[GEMLAB_SHEET_NUMBERS];
 static double sheet_floats[GEMLAB_SHEET_FLOATS];
 
+/* The keys of the rows in use. */
+static void tell_keys(void)
+{
+    printf(" keys");
+    for (uint64_t i = 0; i < used; i++) {
+        printf(" %" PRIu64, keys[i]);
+    }
+    printf("\n");
+}
+
 /* Puts a mark into the library, of which the first `space` rows are lent. */
 static void put(uint64_t id, double x, double y, size_t space)
 {
@@ -88,13 +98,25 @@ static void put(uint64_t id, double x, double y, size_t space)
                                                 &used, id, at, 2);
 
     if (number == GEMLAB_DONE) {
-        printf("mark %" PRIu64 " at (%g,%g): keys", id, x, y);
-        for (uint64_t i = 0; i < used; i++) {
-            printf(" %" PRIu64, keys[i]);
-        }
-        printf("\n");
+        printf("mark %" PRIu64 " at (%g,%g):", id, x, y);
+        tell_keys();
     } else {
         printf("mark %" PRIu64 " at (%g,%g): refused %" PRIu64 ", %" PRIu64 " rows in use\n", id, x, y, number, used);
+    }
+}
+
+/* Strikes a mark off the library. */
+static void strike(uint64_t id)
+{
+    uint64_t removed = 0;
+    uint64_t number = gemlab_grid_search_strike(sheet_numbers, GEMLAB_SHEET_NUMBERS, sheet_floats, GEMLAB_SHEET_FLOATS,
+                                                keys, 8, ids, 8, xs, 8, ys, 8, zs, 8, &used, id, &removed);
+
+    if (number == GEMLAB_DONE) {
+        printf("mark %" PRIu64 " struck off: %" PRIu64 " rows went,", id, removed);
+        tell_keys();
+    } else {
+        printf("mark %" PRIu64 " struck off: refused %" PRIu64 ", %" PRIu64 " rows in use\n", id, number, used);
     }
 }
 
@@ -129,6 +151,14 @@ static void libraries(void)
     find(2, 1);
     find(5.5, 2.5);
     put(8, 9, 1, 8);
+    /* a post is dug out */
+    put(9, 4.5, 0.5, 8);
+    put(6, 4, 2, 8);
+    strike(7);
+    strike(7);
+    find(5.5, 2.5);
+    put(6, 4, 2, 8);
+    find(4.5, 0.5);
     used = 0;
     put(8, 3 - 9.0 / 4096, 0.5, 8);
     find(3, 0.5);

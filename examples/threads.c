@@ -44,7 +44,7 @@ struct own {
     double xs[MOST], ys[MOST], zs[MOST];
     uint64_t numbers[GEMLAB_SHEET_NUMBERS];
     double floats[GEMLAB_SHEET_FLOATS];
-    uint64_t used, found, id, count, returned;
+    uint64_t used, found, id, count, removed, returned;
     double distance, zeta[4];
 };
 static struct own *owns[THREADS];
@@ -65,17 +65,23 @@ static void sheet(struct own *o)
                                          o->floats, GEMLAB_SHEET_FLOATS);
 }
 
-/* A mark where containers meet, into a library that has room for it just once. */
-static void insert_on(struct own *o, size_t dim)
+/* The library, to be changed. */
+static void copy(struct own *o)
 {
-    static const double at[3] = {4, 4, 4};
-
-    o->used = (uint64_t)(MOST - GEMLAB_CELL_ROWS(dim));
     memcpy(o->keys, keys, sizeof keys);
     memcpy(o->ids, ids, sizeof ids);
     memcpy(o->xs, xs, sizeof xs);
     memcpy(o->ys, ys, sizeof ys);
     memcpy(o->zs, zs, sizeof zs);
+}
+
+/* A mark where containers meet, into a library that has room for it just once. */
+static void insert_on(struct own *o, size_t dim)
+{
+    static const double at[3] = {4, 4, 4};
+
+    copy(o);
+    o->used = (uint64_t)(MOST - GEMLAB_CELL_ROWS(dim));
     o->returned = gemlab_grid_search_insert(numbers[dim - 2], GEMLAB_SHEET_NUMBERS, floats[dim - 2], GEMLAB_SHEET_FLOATS,
                                             o->keys, MOST, o->ids, MOST, o->xs, MOST, o->ys, MOST, o->zs, MOST, &o->used,
                                             UINT64_MAX, at, dim);
@@ -89,6 +95,31 @@ static void insert_2d(struct own *o)
 static void insert_3d(struct own *o)
 {
     insert_on(o, 3);
+}
+
+/* A mark that has every other row of a full library. */
+static void strike_on(struct own *o, size_t dim)
+{
+    size_t i;
+
+    copy(o);
+    for (i = 1; i < MOST; i += 2) {
+        o->ids[i] = 8;
+    }
+    o->used = MOST;
+    o->returned = gemlab_grid_search_strike(numbers[dim - 2], GEMLAB_SHEET_NUMBERS, floats[dim - 2], GEMLAB_SHEET_FLOATS,
+                                            o->keys, MOST, o->ids, MOST, o->xs, MOST, o->ys, MOST, o->zs, MOST, &o->used,
+                                            8, &o->removed);
+}
+
+static void strike_2d(struct own *o)
+{
+    strike_on(o, 2);
+}
+
+static void strike_3d(struct own *o)
+{
+    strike_on(o, 3);
 }
 
 static void search_3d(struct own *o)
@@ -207,6 +238,8 @@ static const struct call {
     {"a sheet", sheet, GEMLAB_STACK},
     {"an insertion in 2D", insert_2d, GEMLAB_STACK},
     {"an insertion in 3D", insert_3d, GEMLAB_STACK},
+    {"a striking in 2D", strike_2d, GEMLAB_STACK},
+    {"a striking in 3D", strike_3d, GEMLAB_STACK},
     {"a search", search_3d, GEMLAB_STACK},
     {"a listing of 65,536 rows of which none counts", list_none, GEMLAB_STACK},
     {"a listing on a line in 2D", list_line, GEMLAB_STACK},
@@ -292,8 +325,9 @@ static int tried(const struct call *call, int measure)
         most = depth(&jobs[i]) > most ? depth(&jobs[i]) : most;
         free_area(&jobs[i].stack);
     }
-    printf("%s: returned %" PRIu64 ", found %" PRIu64 ", listed %" PRIu64 ", on %d threads with %zu bytes left", call->name,
-           owns[0]->returned, owns[0]->found, owns[0]->count, THREADS, call->stack);
+    printf("%s: returned %" PRIu64 ", found %" PRIu64 ", listed %" PRIu64 ", removed %" PRIu64
+           ", on %d threads with %zu bytes left", call->name, owns[0]->returned, owns[0]->found, owns[0]->count,
+           owns[0]->removed, THREADS, call->stack);
     if (measure) {
         printf(", took %zu", most);
     }

@@ -36,17 +36,17 @@
  *
  * A mark takes at most GEMLAB_MARK_ROWS(ndim) rows, 5 in 2D and 9 in 3D: one mostly, 4 or 8 where
  * containers meet, and one more only where the side of a container is within rounding of twice the
- * tolerance. Inserted again elsewhere, it takes as many again. A cell takes at most
- * GEMLAB_CELL_ROWS(ndim) rows, 4 in 2D and 8 in 3D. Large cells are at most the part large_pct of
- * the cells, rounded up; a list as long as the cells is always enough. A listing has at most as
- * many ids as rows are in use. Lists of these lengths are never refused for want of room (12, 14);
- * a list of rows has at most 65,536 (24).
+ * tolerance. Inserted again elsewhere, it takes as many again; struck off, it frees them all. A
+ * cell takes at most GEMLAB_CELL_ROWS(ndim) rows, 4 in 2D and 8 in 3D. Large cells are at most the
+ * part large_pct of the cells, rounded up; a list as long as the cells is always enough. A listing
+ * has at most as many ids as rows are in use. Lists of these lengths are never refused for want of
+ * room (12, 14); a list of rows has at most 65,536 (24).
  *
  *
  * Threads and stack
  *
  * Calls may run in several threads at once, as long as none of them writes what another reads or
- * writes: many searches of one library, or insertions into different ones. A call takes at most
+ * writes: many searches of one library, or changes of different ones. A call takes at most
  * GEMLAB_STACK bytes of its thread's stack; a listing on which more than 1,024 rows count takes at
  * most GEMLAB_STACK_LISTING.
  *
@@ -120,6 +120,7 @@ extern "C" {
 #define GEMLAB_ALL_LARGE 23     /* every cell is large, and the percentage keeps them so */
 #define GEMLAB_TOO_LONG 24      /* a lent list holds more than 65,536 points, cells or rows */
 #define GEMLAB_COORDINATES 25   /* the coordinate list is not of length 4 */
+#define GEMLAB_NO_ROW 26        /* the id that is to be struck off has no row */
 
 /*
  * The most stack that a call takes below its caller's frame, in bytes: 8 KiB, and 144 KiB for a
@@ -238,8 +239,9 @@ uint64_t gemlab_grid_search_new(const double *xmin, size_t xmin_len,
  *     xs ys zs its coordinates (zs: +0 in 2D)
  *
  * Rows are in strict order of key, then id. An empty library has the count 0; its entries, and
- * those past the count in any library, may have any content and are never read or changed but where
- * a new row takes their place. A space is at most 65,536.
+ * those past the count in any library, may have any content and are never read. An insertion
+ * changes them only where a new row takes their place; a striking sets them to 0. A space is at
+ * most 65,536.
  *
  * Every call looks at the whole library first, and says 13 where the sheet is damaged, the lists
  * differ in length, the count is above that, rows are out of order, a key is not below the number
@@ -264,6 +266,25 @@ uint64_t gemlab_grid_search_insert(const uint64_t *numbers, size_t numbers_len,
                                    uint64_t *used,
                                    uint64_t id,
                                    const double *x, size_t x_len);
+
+/*
+ * Strikes the mark id off: each of its rows goes, wherever it was inserted. The rows of other marks
+ * close up in their order, and every entry past them, to the end of each of the five lists, becomes
+ * 0 (+0). *used becomes the new count and *removed how many rows went; their room is free for later
+ * insertions. gemlab has no such call: the rows left are those that its insertions of the other
+ * marks give.
+ * Refusals: 24, 13, 26 (the mark has no row).
+ */
+uint64_t gemlab_grid_search_strike(const uint64_t *numbers, size_t numbers_len,
+                                   const double *floats, size_t floats_len,
+                                   uint64_t *keys, size_t keys_len,
+                                   uint64_t *ids, size_t ids_len,
+                                   double *xs, size_t xs_len,
+                                   double *ys, size_t ys_len,
+                                   double *zs, size_t zs_len,
+                                   uint64_t *used,
+                                   uint64_t id,
+                                   uint64_t *removed);
 
 /*
  * The mark at x: of the rows in x's container whose distance from x is at most tol_dist, the lowest

@@ -12,6 +12,7 @@ public() {
 geometry point_point_distance point_line_distance point_circle_distance point_cylinder_distance
 grid_search new
 rows insert
+strike strike
 search search
 listing search_on search_on_place
 listing search_on_line search_on_circle search_on_cylinder
@@ -148,8 +149,8 @@ $(public)
 END
 others=$(contracts crates/capi/src/*.rt | sed 's/ .*//' | grep -v '^gemlab_' || :)
 shown=$(contracts crates/capi/src/*.rt | grep -c '^gemlab_')
-if [ -n "$others" ] || [ "$(public | sed -n 's/^capi //p' | wc -w)" -ne 10 ] || [ "$shown" -ne 10 ]; then
-    echo "public: capi shows other calls than the ten of its header: $shown, and $others" && failed=1
+if [ -n "$others" ] || [ "$(public | sed -n 's/^capi //p' | wc -w)" -ne 11 ] || [ "$shown" -ne 11 ]; then
+    echo "public: capi shows other calls than the eleven of its header: $shown, and $others" && failed=1
 fi
 [ "$failed" -eq 0 ] && echo "public: every public call promises something and asks nothing"
 exit $failed

@@ -43,6 +43,26 @@ extern "C" {
         x_len: usize,
     ) -> u64;
 
+    pub fn gemlab_grid_search_strike(
+        numbers: *const u64,
+        numbers_len: usize,
+        floats: *const f64,
+        floats_len: usize,
+        keys: *mut u64,
+        keys_len: usize,
+        ids: *mut u64,
+        ids_len: usize,
+        xs: *mut f64,
+        xs_len: usize,
+        ys: *mut f64,
+        ys_len: usize,
+        zs: *mut f64,
+        zs_len: usize,
+        used: *mut u64,
+        id: u64,
+        removed: *mut u64,
+    ) -> u64;
+
     pub fn gemlab_grid_search_search(
         numbers: *const u64,
         numbers_len: usize,

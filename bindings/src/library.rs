@@ -75,7 +75,7 @@ impl Library {
     ///
     /// A mark takes one row for each container that it touches: one mostly, 4 in 2D and 8 in 3D where containers meet,
     /// and one more where the side of a container is within rounding of twice the tolerance. So there are at most 5 in
-    /// 2D and 9 in 3D, and as many again each time that it is inserted elsewhere.
+    /// 2D and 9 in 3D, and as many again each time that it is inserted elsewhere. Struck off, it frees them all.
     pub fn with_space(rows: usize) -> Library {
         Library {
             keys: vec![0; rows],
@@ -123,6 +123,38 @@ impl Library {
             )
         };
         Refusal::judge(number)
+    }
+
+    /// Strikes the mark `id` off: every row that it has goes, and their number is given. The rows of other marks close up in
+    /// their order, every entry past them becomes 0, and the room is free for later insertions.
+    ///
+    /// Refusals: 24, 13, 26.
+    pub fn strike(&mut self, sheet: &Sheet, id: u64) -> Result<u64, Refusal> {
+        let mut removed = 0;
+        // SAFETY: each list is an array's or a vector's pointer and length; what is written are fields of `self`, which is
+        // borrowed alone: five vectors with memory of their own, and the count; and a local.
+        let number = unsafe {
+            c::gemlab_grid_search_strike(
+                sheet.numbers.as_ptr(),
+                sheet.numbers.len(),
+                sheet.floats.as_ptr(),
+                sheet.floats.len(),
+                self.keys.as_mut_ptr(),
+                self.keys.len(),
+                self.ids.as_mut_ptr(),
+                self.ids.len(),
+                self.xs.as_mut_ptr(),
+                self.xs.len(),
+                self.ys.as_mut_ptr(),
+                self.ys.len(),
+                self.zs.as_mut_ptr(),
+                self.zs.len(),
+                &mut self.used,
+                id,
+                &mut removed,
+            )
+        };
+        Refusal::judge(number).map(|()| removed)
     }
 
     /// The lowest id of a mark that is near `x`, within the sheet's `tol_dist`, in the container of `x`.

@@ -59,6 +59,7 @@ refusals! {
     23 ALL_LARGE "every cell is large, and the percentage keeps them so",
     24 TOO_LONG "a lent list holds more than 65,536 points, cells or rows",
     25 COORDINATES "the coordinate list is not of length 4",
+    26 NO_ROW "the id that is to be struck off has no row",
 }
 
 impl Refusal {

@@ -19,12 +19,12 @@ fn header() -> Vec<(String, u64)> {
 fn names_are_the_headers() {
     let header = header();
     let number = |name: &str| header.iter().find(|(of, _)| of == name).map(|(_, n)| *n);
-    for n in 1..=25 {
+    for n in 1..=26 {
         let name = Refusal(n).name().unwrap();
         assert_eq!(number(name), Some(n), "{name}");
     }
-    assert_eq!((Refusal(0).name(), Refusal(26).name()), (None, None));
-    assert_eq!((Refusal::OUTSIDE, Refusal::COORDINATES), (Refusal(11), Refusal(25)));
+    assert_eq!((Refusal(0).name(), Refusal(27).name()), (None, None));
+    assert_eq!((Refusal::OUTSIDE, Refusal::NO_ROW), (Refusal(11), Refusal(26)));
     assert_eq!(number("STACK"), Some(STACK as u64));
     assert_eq!(number("STACK_LISTING"), Some(STACK_LISTING as u64));
 }
@@ -58,6 +58,49 @@ fn a_mark_takes_up_to_five_or_nine_rows() {
     }
     let (sheet, _) = tight(2);
     assert_eq!(Library::with_marks(&sheet, usize::MAX).keys.len(), ROWS);
+}
+
+#[test]
+fn a_mark_that_is_struck_off_frees_its_rows() {
+    for ndim in [2, 3] {
+        let (sheet, x) = tight(ndim);
+        let mut library = Library::with_marks(&sheet, 1);
+        let empty = library.clone();
+        library.insert(&sheet, 7, &x).unwrap();
+        let rows = library.used;
+        let full = library.clone();
+        assert_eq!(library.insert(&sheet, 8, &x), Err(Refusal::FULL));
+        assert_eq!(library.strike(&sheet, 7), Ok(rows));
+        assert_eq!(library, empty);
+        assert_eq!(library.strike(&sheet, 7), Err(Refusal::NO_ROW));
+        library.insert(&sheet, 7, &x).unwrap();
+        assert_eq!(library, full);
+    }
+}
+
+#[test]
+fn the_rows_of_other_marks_close_up() {
+    let sheet = Sheet::new(&[0.0, 0.0], &[8.0, 4.0], Some(8), None, Some(0.0)).unwrap();
+    let mut library = Library::with_space(12);
+    // whatever stands past the rows in use becomes 0, to the end of the lists
+    library.keys.fill(u64::MAX);
+    library.ids.fill(5);
+    library.xs.fill(-1.5);
+    library.ys.fill(f64::NAN);
+    library.zs.fill(-0.0);
+    let marks = [(7, [0.5, 0.5]), (9, [2.0, 1.0]), (7, [3.5, 1.5]), (9, [5.5, 2.5]), (7, [7.5, 3.5])];
+    for (id, x) in marks {
+        library.insert(&sheet, id, &x).unwrap();
+    }
+    let mut others = Library::with_space(12);
+    for (id, x) in marks.into_iter().filter(|(id, _)| *id != 9) {
+        others.insert(&sheet, id, &x).unwrap();
+    }
+    assert_eq!(library.strike(&sheet, 9), Ok(5));
+    assert_eq!(library, others);
+    assert!(library.zs.iter().all(|z| z.is_sign_positive()));
+    assert_eq!(library.search(&sheet, &[2.0, 1.0]), Ok(None));
+    assert_eq!(library.search(&sheet, &[3.5, 1.5]), Ok(Some(7)));
 }
 
 #[test]
@@ -105,6 +148,7 @@ fn calls_run_in_threads_with_little_stack() {
                 own.used -= 5;
                 assert_eq!(own.insert(&sheet, 9, &[4.0, 4.0]), Ok(()));
                 assert_eq!(own.search(&sheet, &[4.0, 4.0]), Ok(Some(9)));
+                assert_eq!(own.strike(&sheet, 9), Ok(4));
                 assert_eq!(library.search(&sheet, &[4.0, 4.0]), Ok(None));
             };
             thread::Builder::new().stack_size(STACK + besides).spawn_scoped(scope, one).unwrap();

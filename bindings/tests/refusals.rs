@@ -19,9 +19,13 @@ fn a_refusal_changes_nothing() {
     assert_eq!(library.insert(&sheet, 7, &[2.0, 1.0, 0.0]), Err(Refusal(2)));
     assert_eq!(library.insert(&sheet, 7, &[2.0, f64::NAN]), Err(Refusal(3)));
     assert_eq!(library.insert(&sheet, 7, &[8f64.next_up(), 1.0]), Err(Refusal(11)));
+    assert_eq!(library.strike(&sheet, 7), Err(Refusal(26)));
     assert_eq!(library, before);
     library.insert(&sheet, 7, &[2.5, 1.5]).unwrap();
     assert_eq!((library.used, library.keys[0], library.keys[1]), (1, 10, u64::MAX));
+    let before = library.clone();
+    assert_eq!(library.strike(&sheet, 8), Err(Refusal(26)));
+    assert_eq!(library, before);
 
     let line = Place::Line { a: &[2.5, 0.0], b: &[2.5, 4.0] };
     let mut list = [5];
@@ -64,6 +68,7 @@ fn lists_of_any_length_are_judged() {
         assert_eq!(library.search(&sheet, &[1.0, 1.0]), Err(Refusal(number)));
         let before = library.clone();
         assert_eq!(library.insert(&sheet, 1, &[1.0, 1.0]), Err(Refusal(number)));
+        assert_eq!(library.strike(&sheet, 0), Err(Refusal(number)));
         assert_eq!(library, before);
     }
     assert_eq!(Library::with_space(0).search(&sheet, &[1.0, 1.0]), Ok(None));

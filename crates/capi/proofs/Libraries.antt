@@ -1,38 +1,71 @@
--- What insertion and search tell to C, from what the calls below them ensure.
+-- What insertion, striking and search tell to C, from what the calls below them ensure.
 -- Assumes nothing.
-use Prim.Native.Nat.{ℕ}
+use Prim.Native.Nat.{ℕ, _≤_}
+use native.Mathlib.Omega.{arith}
 use mathlib.Core.Path.{_≡_, sym, ap, _∙_, subst}
 use mathlib.Core.Option.{Option, none, some}
 use mathlib.Core.List.{List}
+use lib.ListN.{length}
 use lib.Ieee.{Float}
-use Rattle.basics.specs.Refusals.{Answer, refused, success, through}
+use Rattle.basics.specs.Refusals.{Answer, refused, success, through, fault}
 use Rattle.grid_search.specs.declared.GridSearch.{GridSearch}
 use Rattle.rows.specs.declared.Inserted.{Inserted}
-use Rattle.rows.specs.declared.Inserted.the-variants as insert
+use Rattle.strike.specs.declared.Struck.{Struck}
+use Rattle.strike.specs.declared.Struck.the-variants.{Removed}
 use Rattle.table.specs.declared.ItemId.{ItemId}
 use Rattle.search.specs.declared.Found.{Found}
 use Rattle.search.specs.declared.Found.the-variants.{Id, Nothing, Refused}
 use Rattle.search.specs.Search.{searchAnswer, found}
-use Rattle.table.specs.Library.{Library, library}
-use Rattle.rows.specs.Insert.{insertion, Gives, usedAfter}
+use Rattle.table.specs.Rows.{own, without}
+use Rattle.table.specs.Library.{Library, library, table, write, blank}
+use Rattle.rows.specs.Turn.{Turn, settle, Gives}
+use Rattle.rows.specs.Insert.{insertion, inserted, usedAfter}
+use Rattle.strike.specs.Strike.{strikeTests, striking, struck, leftAfter}
+use Rattle.strike.proofs.Kept.{struck-used}
 use Rattle.capi.specs.Answers.{number, written}
-use Rattle.capi.specs.Libraries.{ToldTurn, flag, idAfter, ToldFound}
+use Rattle.capi.specs.Libraries.{ToldTurn, ToldStruck, flag, idAfter, ToldFound}
 
--- ---- an insertion, on the sheet as the code has it
+-- ---- a call that changes a library, on the sheet as the code has it: what its answers mean, and the rows in use after each
+
+module _ {A : Type 0} (meaning : A → Answer ℕ) (left : A → ℕ → ℕ) (call : GridSearch → Turn ℕ)
+    {s s′ : GridSearch} (same : s′ ≡ s) {r : A} {keys ids : List ℕ} {xs ys zs : List Float} (used : ℕ)
+    (g : Gives (call s′) (meaning r) (library keys ids xs ys zs (left r used))) where
+  abbrev after : A → Library
+  after a = library keys ids xs ys zs (left a used)
+
+  gives : {a : A} → r ≡ a → Gives (call s) (meaning a) (after a)
+  gives {a} e = subst (λ (u : GridSearch). Gives (call u) (meaning a) (after a)) same (subst (λ (b : A). Gives (call s′) (meaning b) (after b)) e g)
+
+  turned : {a : A} → r ≡ a → ToldTurn (call s) (number (meaning a)) (after a)
+  turned e = let d = gives e in record { returned = ap number (d .answers); library-is = d .library-is }
+
+  -- the answer's number where the call is accepted, and else the old one
+  wrote : {a : A} (old : ℕ) → r ≡ a → written (meaning a) old ≡ written (call s .answer) old
+  wrote old e = ap (λ (b : Answer ℕ). written b old) (gives e .answers)
 
 module _ (l : Library) (i : ℕ) (x : List Float) {s s′ : GridSearch} (same : s′ ≡ s) {r : Inserted} {keys ids : List ℕ} {xs ys zs : List Float} (used : ℕ)
-    (g : Gives (insertion s′ l i x) r (library keys ids xs ys zs (usedAfter r used))) (n : ℕ) where
-  abbrev after : ℕ → Library
-  after = library keys ids xs ys zs
+    (g : Gives (insertion s′ l i x) (inserted r) (library keys ids xs ys zs (usedAfter r used))) where
+  pub told-inserted : {a : Inserted} → r ≡ a → ToldTurn (insertion s l i x) (number (inserted a)) (library keys ids xs ys zs (usedAfter a used))
+  told-inserted e = turned inserted usedAfter (λ (u : GridSearch). insertion u l i x) same used g e
 
-  turn : {a : Inserted} → r ≡ a → Gives (insertion s l i x) a (after (usedAfter a used))
-  turn {a} e = subst (λ (u : GridSearch). Gives (insertion u l i x) a (after (usedAfter a used))) same (subst (λ (b : Inserted). Gives (insertion s′ l i x) b (after (usedAfter b used))) e g)
+module _ (l : Library) (i : ℕ) {s s′ : GridSearch} (same : s′ ≡ s) {r : Struck} {keys ids : List ℕ} {xs ys zs : List Float} (used : ℕ)
+    (g : Gives (striking s′ l i) (struck r) (library keys ids xs ys zs (leftAfter r used))) where
+  pub told-struck : {a : Struck} (old : ℕ) → r ≡ a → ToldStruck (striking s l i) (number (struck a)) (library keys ids xs ys zs (leftAfter a used)) old (written (struck a) old)
+  told-struck old e = let call : GridSearch → Turn ℕ = λ u. striking u l i in
+      record { told = turned struck leftAfter call same used g e; removed-is = wrote struck leftAfter call same used g old e }
 
-  pub told-stored : r ≡ insert.Stored n → ToldTurn (insertion s l i x) 0 (after n)
-  told-stored e = let d = turn e in record { returned = ap number (d .answers); library-is = d .library-is }
+-- no more rows go than are in use
+module _ (s : GridSearch) (l : Library) (i : ℕ) where
+  at-most : written (striking s l i .answer) 0 ≤ l .used
+  unfolding striking settle
+  at-most = go (fault (strikeTests s l i))
+    where
+      go : (o : Option ℕ) → written (settle o (length (own i (table l))) (write (without i (table l)) (blank l)) l .answer) 0 ≤ l .used
+      go none = omega (arith, struck-used l i)
+      go (some n) = omega arith
 
-  pub told-refused : r ≡ insert.Refused n → ToldTurn (insertion s l i x) n (after used)
-  told-refused e = let d = turn e in record { returned = ap number (d .answers); library-is = d .library-is }
+  pub removed-at-most : {r : Struck} {n : ℕ} {after : Library} → Gives (striking s l i) (struck r) after → r ≡ Removed n → n ≤ l .used
+  removed-at-most g e = omega (arith, ap (λ (b : Answer ℕ). written b 0) (sym (ap struck e) ∙ g .answers), at-most)
 
 -- ---- a search, for a mark or for a cell
 

@@ -1,17 +1,22 @@
--- What insertion and search give to C: the number, and everything lent at exit.
+-- What insertion, striking and search give to C: the number, and everything lent at exit.
 -- Assumes nothing.
 use Prim.Native.Nat.{ℕ}
 use mathlib.Core.Path.{_≡_}
 use mathlib.Core.Option.{Option, none, some}
 use Rattle.basics.specs.Refusals.{Answer, refused, success, through}
 use Rattle.table.specs.Library.{Library}
-use Rattle.rows.specs.Insert.{Turn}
+use Rattle.rows.specs.Turn.{Turn}
 use Rattle.capi.specs.Answers.{number, written}
 
--- an insertion: the library at exit is the one that the call leaves
+-- an insertion or a striking: the library at exit is the one that the call leaves
 pub record ToldTurn (t : Turn ℕ) (r : ℕ) (after : Library) : Type 0 where
   pub returned : r ≡ number (t .answer)
   pub library-is : after ≡ t .library
+
+-- a striking also writes how many rows went
+pub record ToldStruck (t : Turn ℕ) (r : ℕ) (after : Library) (removed removed′ : ℕ) : Type 0 where
+  pub told : ToldTurn t r after
+  pub removed-is : removed′ ≡ written (t .answer) removed
 
 -- whether something is found
 abbrev pub flag : Option ℕ → ℕ

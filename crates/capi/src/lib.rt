@@ -16,5 +16,6 @@ pub use distances::gemlab_point_point_distance;
 pub use index::gemlab_grid_cells_search;
 pub use library::gemlab_grid_search_insert;
 pub use library::gemlab_grid_search_search;
+pub use library::gemlab_grid_search_strike;
 pub use lists::gemlab_grid_search_list;
 pub use sheet::gemlab_grid_search_new;

@@ -1,12 +1,14 @@
-// A library of marks on a sheet: insertion and search.
+// A library of marks on a sheet: insertion, striking and search.
 ghost use Rattle.table.specs.Library.{library};
 ghost use Rattle.rows.specs.Insert.{insertion};
+ghost use Rattle.strike.specs.Strike.{striking};
 ghost use Rattle.search.specs.Search.{searchAnswer};
 ghost use Rattle.capi.specs.Sheets.{sheetOf};
-ghost use Rattle.capi.specs.Libraries.{ToldTurn, ToldFound};
+ghost use Rattle.capi.specs.Libraries.{ToldTurn, ToldStruck, ToldFound};
 use crate::sheet::sheet_of;
 use rows::Inserted;
 use search::Found;
+use strike::Struck;
 use table::ItemId;
 
 // Puts a mark into its own container and those of its halo corners, and writes the new count. Returns 0, or the first of 24,
@@ -37,6 +39,40 @@ pub extern "C" fn gemlab_grid_search_insert(
             0
         }
         Inserted::Refused(n) => n,
+    }
+}
+
+// Takes every row of an id out of the library, and writes the new count and how many rows went. Returns 0, or the first of 24,
+// 13 and 26 that applies, and then writes nothing.
+#[no_mangle]
+pub extern "C" fn gemlab_grid_search_strike(
+    numbers: &[u64],
+    floats: &[f64],
+    keys: &mut [u64],
+    ids: &mut [u64],
+    xs: &mut [f64],
+    ys: &mut [f64],
+    zs: &mut [f64],
+    used: &mut u64,
+    id: u64,
+    removed: &mut u64,
+) -> u64
+    ensures { λ r. ⌜ ToldStruck (striking (sheetOf (now (numbers .entry)) (now (floats .entry)))
+        (library (now (keys .entry)) (now (ids .entry)) (now (xs .entry)) (now (ys .entry)) (now (zs .entry)) (now (used .entry))) id)
+        r (library (now (keys .exit)) (now (ids .exit)) (now (xs .exit)) (now (ys .exit)) (now (zs .exit)) (now (used .exit)))
+        (now (removed .entry)) (now (removed .exit)) ⌝ }
+{
+    let sheet = sheet_of(numbers, floats);
+    let count = *used as usize;
+    let answer = strike::strike(sheet, keys, ids, xs, ys, zs, count, ItemId(id));
+    match answer {
+        Struck::Removed(n) => {
+            let left = count - n;
+            *used = left as u64;
+            *removed = n as u64;
+            0
+        }
+        Struck::Refused(n) => n,
     }
 }
 
