@@ -35,7 +35,7 @@ const PLANE_XZ: u64 = 5;
 
 /// A place and a filter, as the C interface has them.
 #[derive(Clone, Debug)]
-struct Asked {
+pub(crate) struct Asked {
     place: u64,
     a: Vec<f64>,
     b: Vec<f64>,
@@ -171,7 +171,7 @@ fn told(lent: &Lent, asked: &Asked, room: usize, due: &Result<Vec<u64>, u64>, t:
 }
 
 /// One listing beside gemlab's, with lists of several lengths.
-fn listing(lent: &Lent, rust: &GridSearch, ndim: usize, asked: &Asked, t: &mut Tally) {
+pub(crate) fn listing(lent: &Lent, rust: &GridSearch, ndim: usize, asked: &Asked, t: &mut Tally) {
     let due = due(asked, ndim, rust);
     let n = due.as_ref().map_or(0, |ids| ids.len());
     for room in [n, n + 1, n + 3] {
@@ -184,8 +184,8 @@ fn listing(lent: &Lent, rust: &GridSearch, ndim: usize, asked: &Asked, t: &mut T
 }
 
 /// Places and filters of all kinds, most of them by a mark.
-struct Places {
-    r: Random,
+pub(crate) struct Places {
+    pub(crate) r: Random,
 }
 
 impl Places {
@@ -224,7 +224,7 @@ impl Places {
         }
     }
 
-    fn asked(&mut self, w: &World) -> Asked {
+    pub(crate) fn asked(&mut self, w: &World) -> Asked {
         let f = &w.fields;
         let ndim = f.ndim;
         let mark: Vec<f64> = if w.rows.is_empty() || self.r.below(8) == 0 {
@@ -379,7 +379,7 @@ fn world(ndim: usize, ndiv: usize, space: usize, r: &mut Random, t: &mut Tally) 
 }
 
 /// Rows of any container, written into both libraries.
-fn write_rows(w: &mut World, rows: &BTreeMap<(u64, u64), [f64; 3]>) {
+pub(crate) fn write_rows(w: &mut World, rows: &BTreeMap<(u64, u64), [f64; 3]>) {
     let ndim = w.ndim();
     for (i, ((key, id), at)) in rows.iter().enumerate() {
         w.lent.keys[i] = *key;
@@ -477,14 +477,7 @@ fn many(t: &mut Tally) {
 /// Document 01's lines on listings, on sheet S.
 fn examples(t: &mut Tally) {
     let mut r = Random::new(25);
-    let settings = Settings {
-        xmin: vec![0.0, 0.0],
-        xmax: vec![8.0, 4.0],
-        ndiv: Some(8),
-        tolerance: Some(1.0 / 512.0),
-        border_tol: Some(0.0),
-    };
-    let Some(mut w) = settings.make(8, &mut r, t) else { return };
+    let Some(mut w) = Settings::s().make(8, &mut r, t) else { return };
     let ends = |gap: f64| Asked::new(LINE, &[1.0, 1.0], &[1.0 + gap, 1.0], f64::NAN);
     let tiny = [ends(0.0), ends(1.0 / 67108864.0), ends(1.0 / 33554432.0)];
     for asked in &tiny {
@@ -511,19 +504,20 @@ fn examples(t: &mut Tally) {
     t.equal(list(&damaged, &bad, 0).0, 24, || format!("{bad:?} in a list too long"));
 }
 
-/// The marks of one list of calls, and the accepted insertions of each.
+/// The marks of one list of calls, and the history of each: its accepted insertions by their positions, and its accepted
+/// strikings, which have none.
 struct Story {
     world: World,
-    marks: BTreeMap<u64, Vec<Vec<f64>>>,
+    marks: BTreeMap<u64, Vec<Option<Vec<f64>>>>,
 }
 
-/// Demand 3: a mark is near a position, or on a place, exactly where it is so in a library of the same space that has that
-/// mark's accepted insertions alone, each of which is accepted there.
+/// Demand 3: a mark is near a position, or on a place, exactly where it is so in a library of the same space that was given that
+/// mark's history alone, of which each call is accepted there.
 fn independence(t: &mut Tally) {
     let mut s = Source::new(26);
     let mut p = Places { r: Random::new(27) };
     let mut told = 0;
-    let (mut near, mut listed) = (0, 0);
+    let (mut near, mut listed, mut struck) = (0, 0, 0);
     for _ in 0..4 * STORIES {
         if told == STORIES {
             break;
@@ -537,17 +531,24 @@ fn independence(t: &mut Tally) {
         for _ in 0..calls {
             let w = &mut story.world;
             let (id, x) = (s.id(), s.position(w));
-            match s.r.below(6) {
+            match s.r.below(7) {
                 0 => {
                     w.lent.search(&x);
                 }
                 1 => {
                     list(&w.lent, &p.asked(w), 4);
                 }
+                2 => {
+                    if w.lent.strike(id).0 == 0 {
+                        story.marks.entry(id).or_default().push(None);
+                        w.rows.retain(|row, _| row.1 != id);
+                        struck += 1;
+                    }
+                }
                 _ => {
                     let before = w.lent.clone();
                     if w.lent.insert(id, &x) == 0 {
-                        story.marks.entry(id).or_default().push(x.clone());
+                        story.marks.entry(id).or_default().push(Some(x.clone()));
                         let at = [x[0], x[1], if x.len() == 2 { 0.0 } else { x[2] }];
                         // the rows, for the places that are asked for
                         w.rows.insert((w.rust.key_of(&x).unwrap_or(0) as u64, id), at);
@@ -564,8 +565,12 @@ fn independence(t: &mut Tally) {
             .iter()
             .filter_map(|(id, history)| {
                 let mut lent = settings.make(space, &mut s.r, t)?.lent;
-                for x in history {
-                    t.equal(lent.insert(*id, x), 0, || format!("insertion of {id} alone at {x:?}"));
+                for call in history {
+                    let number = match call {
+                        Some(x) => lent.insert(*id, x),
+                        None => lent.strike(*id).0,
+                    };
+                    t.equal(number, 0, || format!("{call:?} of {id} alone"));
                 }
                 Some((*id, lent))
             })
@@ -607,7 +612,9 @@ fn independence(t: &mut Tally) {
         }
     }
     t.equal(told, STORIES, || "lists of calls".to_string());
-    t.check(near > STORIES && listed > STORIES, || format!("only {near} near and {listed} listed marks were met"));
+    t.check(near > STORIES && listed > STORIES && struck > STORIES / 2, || {
+        format!("only {near} near, {listed} listed and {struck} struck marks were met")
+    });
 }
 
 pub fn compare(t: &mut Tally) {

@@ -18,6 +18,7 @@ mod near;
 mod random;
 mod rows;
 mod sheet;
+mod strike;
 mod tally;
 mod timing;
 
@@ -30,6 +31,7 @@ const PARTS: &[(&str, fn(&mut Tally))] = &[
     ("sheet", sheet::compare),
     ("rows", rows::compare),
     ("listing", listing::compare),
+    ("strike", strike::compare),
     ("cells", cells::compare),
     ("field", field::compare),
 ];
@@ -40,6 +42,7 @@ const BENCHES: &[(&str, fn())] = &[
     ("bench-sheet", sheet::measure),
     ("bench-rows", rows::measure),
     ("bench-listing", listing::measure),
+    ("bench-strike", strike::measure),
     ("bench-cells", cells::measure),
 ];
 

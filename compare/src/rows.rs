@@ -110,7 +110,7 @@ impl Lent {
     }
 
     /// The lists that are written, without a new allocation.
-    fn copy_from(&mut self, other: &Lent) {
+    pub(crate) fn copy_from(&mut self, other: &Lent) {
         self.numbers.clone_from(&other.numbers);
         self.floats.clone_from(&other.floats);
         self.keys.clone_from(&other.keys);
@@ -222,13 +222,9 @@ impl Lent {
                     n if n % 2 == 0 && space > 0 => space - 1,
                     _ => space + 1,
                 };
-                match r.below(6) {
-                    0 => self.keys.resize(to, 0),
-                    1 => self.ids.resize(to, 0),
-                    2 => self.xs.resize(to, 0.0),
-                    3 => self.ys.resize(to, 0.0),
-                    4 => self.zs.resize(to, 0.0),
-                    _ => self.resize(to),
+                match r.below(6) as usize {
+                    5 => (0..5).for_each(|list| self.resize(list, to)),
+                    list => self.resize(list, to),
                 }
             }
             6 => self.used = *r.pick(&[0, self.keys.len() as u64, self.keys.len() as u64 + 1, u64::MAX]),
@@ -249,12 +245,34 @@ impl Lent {
         [self.ids.len(), self.xs.len(), self.ys.len(), self.zs.len()].iter().all(|n| *n == self.keys.len())
     }
 
-    fn resize(&mut self, rows: usize) {
-        self.keys.resize(rows, 0);
-        self.ids.resize(rows, 0);
-        self.xs.resize(rows, 0.0);
-        self.ys.resize(rows, 0.0);
-        self.zs.resize(rows, 0.0);
+    /// Any content past the rows in use.
+    pub(crate) fn scribble(&mut self, r: &mut Random) {
+        let n = self.used as usize;
+        self.keys[n..].fill_with(|| r.next());
+        self.ids[n..].fill_with(|| r.next());
+        self.xs[n..].fill_with(|| r.pattern());
+        self.ys[n..].fill_with(|| r.pattern());
+        self.zs[n..].fill_with(|| r.pattern());
+    }
+
+    /// 0 or +0 from a row on, to the end of each list.
+    pub(crate) fn blank(&mut self, from: usize) {
+        self.keys[from..].fill(0);
+        self.ids[from..].fill(0);
+        self.xs[from..].fill(0.0);
+        self.ys[from..].fill(0.0);
+        self.zs[from..].fill(0.0);
+    }
+
+    /// One of the five lists, in the order of the C interface, with another length.
+    pub(crate) fn resize(&mut self, list: usize, to: usize) {
+        match list {
+            0 => self.keys.resize(to, 0),
+            1 => self.ids.resize(to, 0),
+            2 => self.xs.resize(to, 0.0),
+            3 => self.ys.resize(to, 0.0),
+            _ => self.zs.resize(to, 0.0),
+        }
     }
 
     fn swap(&mut self, i: usize, j: usize) {
@@ -283,7 +301,18 @@ pub(crate) struct Settings {
 }
 
 impl Settings {
-    fn rust(&self) -> Result<GridSearch, &'static str> {
+    /// Those of document 01's sheet S.
+    pub(crate) fn s() -> Self {
+        Settings {
+            xmin: vec![0.0, 0.0],
+            xmax: vec![8.0, 4.0],
+            ndiv: Some(8),
+            tolerance: Some(1.0 / 512.0),
+            border_tol: Some(0.0),
+        }
+    }
+
+    pub(crate) fn rust(&self) -> Result<GridSearch, &'static str> {
         GridSearch::new(&self.xmin, &self.xmax, self.ndiv, self.tolerance, self.border_tol)
     }
 
@@ -327,16 +356,10 @@ impl Settings {
         if number != 0 {
             return None;
         }
-        let lent = Lent {
-            numbers,
-            floats,
-            keys: (0..space).map(|_| r.next()).collect(),
-            ids: (0..space).map(|_| r.next()).collect(),
-            xs: (0..space).map(|_| r.pattern()).collect(),
-            ys: (0..space).map(|_| r.pattern()).collect(),
-            zs: (0..space).map(|_| r.pattern()).collect(),
-            used: 0,
-        };
+        let (keys, ids) = (vec![0; space], vec![0; space]);
+        let (xs, ys, zs) = (vec![0.0; space], vec![0.0; space], vec![0.0; space]);
+        let mut lent = Lent { numbers, floats, keys, ids, xs, ys, zs, used: 0 };
+        lent.scribble(r);
         Some(World { fields: rust.fields(), rust, before: lent.clone(), lent, rows: BTreeMap::new() })
     }
 }
@@ -386,7 +409,8 @@ impl World {
         points
     }
 
-    pub(crate) fn insert(&mut self, id: u64, x: &[f64], t: &mut Tally) {
+    /// The number that is due.
+    pub(crate) fn insert(&mut self, id: u64, x: &[f64], t: &mut Tally) -> u64 {
         self.before.copy_from(&self.lent);
         let number = self.lent.insert(id, x);
         let points = self.points(x);
@@ -408,7 +432,7 @@ impl World {
             t.check(lent.same(before), || {
                 format!("insert {id} at {x:?}: refused with {number}, and {before:?} is now {lent:?}")
             });
-            return;
+            return expected;
         }
         let theirs = self.rust.insert(id as usize, x);
         t.check(theirs.is_ok(), || format!("insert {id} at {x:?}: gemlab says {theirs:?}"));
@@ -418,10 +442,11 @@ impl World {
         }
         let (good, lent, before) = (self.stands(), &self.lent, &self.before);
         t.check(good, || format!("insert {id} at {x:?}: {before:?} is now {lent:?}"));
+        0
     }
 
     /// The lists hold the rows in order, and past them what was there before.
-    fn stands(&self) -> bool {
+    pub(crate) fn stands(&self) -> bool {
         let (l, b, n) = (&self.lent, &self.before, self.rows.len());
         l.used == n as u64
             && self.rows.iter().enumerate().all(|(i, ((key, id), at))| {
@@ -466,7 +491,7 @@ impl World {
     }
 
     /// gemlab's containers hold the same rows.
-    fn check_rust(&self, t: &mut Tally) {
+    pub(crate) fn check_rust(&self, t: &mut Tally) {
         let theirs: Vec<_> = self.rust.rows();
         let agrees = theirs.len() == self.rows.len()
             && theirs.iter().zip(&self.rows).all(|(row, ((key, id), at))| {
@@ -686,7 +711,7 @@ impl World {
 }
 
 /// Both calls on a library that is to be refused with `number`: nothing lent changes.
-fn refused(lent: &Lent, x: &[f64], number: u64, t: &mut Tally, what: impl Fn() -> String) {
+fn refused(lent: &Lent, x: &[f64], number: u64, t: &mut Tally, what: &dyn Fn() -> String) {
     let mut after = lent.clone();
     t.number("insert", after.insert(3, x), number, || format!("{}: {lent:?}", what()));
     t.check(after.same(lent), || format!("insert, {}: {lent:?} is now {after:?}", what()));
@@ -695,9 +720,24 @@ fn refused(lent: &Lent, x: &[f64], number: u64, t: &mut Tally, what: impl Fn() -
     t.equal((found, id), (FOUND, ID), || format!("search, {}: {lent:?}", what()));
 }
 
-/// Every clause of 13, and 24, on good libraries.
 fn damages(t: &mut Tally) {
-    let mut s = Source::new(13);
+    damaged(13, t, |lent, x, number, t, what| {
+        if number == 0 {
+            t.equal(lent.search(x).0, 0, || format!("{}: {lent:?}", what()));
+        } else {
+            refused(lent, x, number, t, what);
+        }
+    });
+}
+
+/// Good libraries, and each with every clause of 13, and 24: `work` has the library, the position of its first row, the
+/// number that is due, which is 0 or the refusal, and what was done.
+pub(crate) fn damaged(
+    seed: u64,
+    t: &mut Tally,
+    mut work: impl FnMut(&Lent, &[f64], u64, &mut Tally, &dyn Fn() -> String),
+) {
+    let mut s = Source::new(seed);
     let mut made = 0;
     for _ in 0..4000 {
         if made == 400 {
@@ -715,15 +755,15 @@ fn damages(t: &mut Tally) {
         made += 1;
         let ndim = w.ndim();
         let good = w.lent.clone();
-        // a position that both calls take
+        // a position that insertion and search take
         let x: Vec<f64> = w.rows.values().next().unwrap()[..ndim].to_vec();
-        t.equal(good.search(&x).0, 0, || format!("a good library: {good:?}"));
+        work(&good, &x, 0, t, &|| "a good library".to_string());
         let n = good.used as usize;
         let count = w.fields.ndiv.iter().product::<usize>() as u64;
         let mut bad = |change: &dyn Fn(&mut Lent), number: u64, what: &dyn Fn() -> String| {
             let mut lent = good.clone();
             change(&mut lent);
-            refused(&lent, &x, number, t, what);
+            work(&lent, &x, number, t, what);
         };
         // the sheet is not the one its settings give
         for i in 0..8 {
@@ -756,28 +796,10 @@ fn damages(t: &mut Tally) {
         bad(&|l| l.floats.clear(), 13, &|| "no floats".to_string());
         // lists of unequal length, by one or by all
         for list in 0..5 {
-            for longer in [false, true] {
-                let change = |l: &mut Lent| {
-                    let space = l.keys.len();
-                    let to = if longer { space + 1 } else { space - 1 };
-                    match list {
-                        0 => l.keys.resize(to, 0),
-                        1 => l.ids.resize(to, 0),
-                        2 => l.xs.resize(to, 0.0),
-                        3 => l.ys.resize(to, 0.0),
-                        _ => l.zs.resize(to, 0.0),
-                    }
-                };
-                bad(&change, 13, &|| format!("list {list} longer: {longer}"));
+            let space = good.keys.len();
+            for to in [0, space - 1, space + 1] {
+                bad(&|l| l.resize(list, to), 13, &|| format!("list {list} of {to} entries and not {space}"));
             }
-            let change = |l: &mut Lent| match list {
-                0 => l.keys.clear(),
-                1 => l.ids.clear(),
-                2 => l.xs.clear(),
-                3 => l.ys.clear(),
-                _ => l.zs.clear(),
-            };
-            bad(&change, 13, &|| format!("list {list} empty"));
         }
         // used count above the space
         for used in [25, 26, MOST_ROWS as u64, 1 << 32, u64::MAX] {
@@ -810,13 +832,7 @@ fn damages(t: &mut Tally) {
         if made % 40 == 0 {
             for list in 0..5 {
                 let change = |l: &mut Lent| {
-                    match list {
-                        0 => l.keys.resize(MOST_ROWS + 1, 0),
-                        1 => l.ids.resize(MOST_ROWS + 1, 0),
-                        2 => l.xs.resize(MOST_ROWS + 1, 0.0),
-                        3 => l.ys.resize(MOST_ROWS + 1, 0.0),
-                        _ => l.zs.resize(MOST_ROWS + 1, 0.0),
-                    }
+                    l.resize(list, MOST_ROWS + 1);
                     l.floats[14] = f64::NAN;
                 };
                 bad(&change, 24, &|| format!("list {list} too long"));
@@ -831,20 +847,14 @@ fn damages(t: &mut Tally) {
         }
         lent.xs[0] = LIMIT;
         lent.ys[n - 1] = -LIMIT;
-        t.equal(lent.search(&x).0, 0, || format!("limits: {lent:?}"));
+        work(&lent, &x, 0, t, &|| "limits".to_string());
     }
     t.equal(made, 400, || "libraries that were damaged".to_string());
 }
 
 /// Document 01's lines on ids 7 and 8, on sheet S.
 fn examples(t: &mut Tally) {
-    let settings = Settings {
-        xmin: vec![0.0, 0.0],
-        xmax: vec![8.0, 4.0],
-        ndiv: Some(8),
-        tolerance: Some(1.0 / 512.0),
-        border_tol: Some(0.0),
-    };
+    let settings = Settings::s();
     let mut r = Random::new(14);
     let Some(mut w) = settings.make(8, &mut r, t) else { return };
     let keys = |w: &World| w.lent.keys[..w.lent.used as usize].to_vec();

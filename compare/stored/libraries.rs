@@ -1,8 +1,10 @@
-//! A sample of gemlab's sheets, insertions, searches, listings and distances, for the program `replay`.
+//! A sample of gemlab's sheets, insertions, searches, listings and distances, for the program `replay`, and of strikings,
+//! which gemlab has not: what it answers after one is that of a library that was given the other ids' insertions alone.
 //!
 //! The inputs are made by a generator with a fixed seed, so that the file is the same in every run. What gemlab takes
 //! from a hash map in any order is stored as the set of what it may give, and what it gives is checked to be in it.
-//! Every input is within the limits of document 01, and breaks at most one rule: only refusals that gemlab has are here.
+//! Every input is within the limits of document 01, and breaks at most one rule: only refusals that gemlab has are here,
+//! and 26, for an id that has no row.
 
 use crate::random::Random;
 use crate::words::{three, Words};
@@ -18,12 +20,14 @@ pub const SEARCH: u64 = 3;
 pub const LIST: u64 = 4;
 pub const TABLE: u64 = 5;
 pub const DISTANCE: u64 = 6;
+pub const STRIKE: u64 = 10;
 
-/// Libraries, marks put into each, searches and listings in each.
+/// Libraries, marks put into each, searches and listings in each, and then strikings.
 const LIBRARIES: usize = 48;
 const MARKS: usize = 24;
 const SEARCHES: usize = 30;
 const LISTINGS: usize = 8;
+const STRIKINGS: usize = 4;
 
 /// Distances of each kind in each dimension.
 const DISTANCES: usize = 100;
@@ -88,6 +92,34 @@ impl Settings {
         }
         w.floats(&[f.side_length, f.tol_dist, f.radius]);
         Some(grid)
+    }
+}
+
+/// A library whose ids can be struck off: gemlab's, given the accepted insertions since each id's last striking, in order.
+struct Library {
+    settings: Settings,
+    grid: GridSearch,
+    given: Vec<(usize, Vec<f64>)>,
+}
+
+impl Library {
+    fn insert(&mut self, id: usize, x: &[f64]) -> Result<(), StrError> {
+        self.grid.insert(id, x)?;
+        self.given.push((id, x.to_vec()));
+        Ok(())
+    }
+
+    /// How many rows go; none is a refusal.
+    fn strike(&mut self, id: usize) -> usize {
+        let mut rows = self.grid.rows();
+        let count = rows.len();
+        self.given.retain(|(of, _)| *of != id);
+        self.grid = self.settings.made().unwrap();
+        self.given.iter().for_each(|(id, x)| self.grid.insert(*id, x).unwrap());
+        // those of other ids are as they were
+        rows.retain(|row| row.id != id);
+        assert_eq!(format!("{rows:?}"), format!("{:?}", self.grid.rows()));
+        count - rows.len()
     }
 }
 
@@ -172,14 +204,25 @@ fn near_ids(grid: &GridSearch, x: &[f64]) -> Vec<usize> {
         .collect()
 }
 
-fn store_insert(w: &mut Words, grid: &mut GridSearch, id: usize, x: &[f64]) {
+fn store_insert(w: &mut Words, library: &mut Library, id: usize, x: &[f64]) {
     w.entry(INSERT);
     w.count(id);
     w.position(x);
-    w.answer(grid.insert(id, x));
-    let rows = grid.rows().len();
+    w.answer(library.insert(id, x));
+    let rows = library.grid.rows().len();
     assert!(rows <= ROWS);
     w.count(rows);
+}
+
+fn store_strike(w: &mut Words, library: &mut Library, id: usize) {
+    w.entry(STRIKE);
+    w.count(id);
+    let removed = library.strike(id);
+    w.word(if removed == 0 { 26 } else { 0 });
+    w.count(library.grid.rows().len());
+    if removed > 0 {
+        w.count(removed);
+    }
 }
 
 fn store_search(w: &mut Words, grid: &GridSearch, x: &[f64]) {
@@ -281,71 +324,130 @@ impl Place {
     }
 }
 
-fn store_library(w: &mut Words, r: &mut Random, ndim: usize) {
-    let mut grid = loop {
+/// A listing on a place through marks.
+fn store_listing(w: &mut Words, r: &mut Random, grid: &GridSearch, marks: &[Vec<f64>]) {
+    let place = Place::random(r, grid, marks);
+    let axis = r.below(grid.fields().ndim as u64) as usize;
+    let (p, q) = (r.pick(marks)[axis], r.pick(marks)[axis]);
+    let range = match r.below(4) {
+        0 => Some((axis, p, q)),
+        1 => Some((axis, p.min(q), p.max(q))),
+        _ => None,
+    };
+    place.store(w, grid, range);
+}
+
+/// Strikings of ids that have rows, of ids that never had or have no more, and what is answered after each.
+fn store_strikings(w: &mut Words, r: &mut Random, library: &mut Library, marks: &[Vec<f64>]) {
+    // no mark has had the id 0
+    let mut struck = vec![0];
+    for _ in 0..STRIKINGS {
+        let rows = library.grid.rows();
+        let id = if r.below(4) == 0 { *r.pick(&struck) } else { r.pick(&rows).id };
+        store_strike(w, library, id);
+        struck.push(id);
+        if r.below(4) == 0 {
+            store_strike(w, library, id);
+        }
+        if r.below(3) == 0 {
+            store_table(w, &library.grid);
+        }
+        // where the id was, others may be near
+        for _ in 0..2 {
+            let other = r.pick(marks).clone();
+            let x = beside(r, &library.grid, &other);
+            store_search(w, &library.grid, &x);
+        }
+        store_listing(w, r, &library.grid, marks);
+        if r.below(3) == 0 {
+            let x = position(r, &library.grid);
+            store_insert(w, library, id, &x);
+        }
+    }
+    store_table(w, &library.grid);
+}
+
+/// Strikings until no row is left, and a mark in the empty library.
+fn store_clearance(w: &mut Words, r: &mut Random, library: &mut Library, marks: &[Vec<f64>]) {
+    while let Some(row) = library.grid.rows().last() {
+        store_strike(w, library, row.id);
+    }
+    store_table(w, &library.grid);
+    let x = r.pick(marks);
+    store_search(w, &library.grid, x);
+    Place { kind: 0, a: x.clone(), b: x.clone(), number: 0.0 }.store(w, &library.grid, None);
+    store_insert(w, library, 1, x);
+    store_search(w, &library.grid, x);
+    store_table(w, &library.grid);
+}
+
+/// A library, with the positions of its marks.
+fn store_library(w: &mut Words, r: &mut Random, ndim: usize) -> (Library, Vec<Vec<f64>>) {
+    let (settings, grid) = loop {
         let settings = Settings::random(r, ndim);
         if settings.made().is_ok() {
-            break settings.store(w).unwrap();
+            let grid = settings.store(w).unwrap();
+            break (settings, grid);
         }
     };
+    let mut library = Library { settings, grid, given: Vec::new() };
 
     // a line through one point: only where there is a row
-    let x = position(r, &grid);
+    let x = position(r, &library.grid);
     let point = Place { kind: 0, a: x.clone(), b: x.clone(), number: 0.0 };
-    point.store(w, &grid, None);
+    point.store(w, &library.grid, None);
 
     let mut marks: Vec<Vec<f64>> = Vec::new();
     for i in 0..MARKS {
         let x = match r.below(8) {
-            0 if i > 0 => astray(r, &grid),
+            0 if i > 0 => astray(r, &library.grid),
             1 | 2 if i > 0 => {
                 let other = r.pick(&marks).clone();
-                beside(r, &grid, &other)
+                beside(r, &library.grid, &other)
             }
-            _ => position(r, &grid),
+            _ => position(r, &library.grid),
         };
         // some ids come again, some are large
         let id = if r.below(5) == 0 { 1 + r.below(3) as usize } else { 10 + i };
         let id = if r.below(9) == 0 { usize::MAX - id } else { id };
-        store_insert(w, &mut grid, id, &x);
-        if x.len() == ndim && grid.key_of(&x).is_some() {
+        store_insert(w, &mut library, id, &x);
+        if x.len() == ndim && library.grid.key_of(&x).is_some() {
             marks.push(x);
         }
     }
-    store_table(w, &grid);
-    point.store(w, &grid, None);
+    let grid = &library.grid;
+    store_table(w, grid);
+    point.store(w, grid, None);
 
     for i in 0..SEARCHES {
         let x = match i % 6 {
-            0 => astray(r, &grid),
-            1 => position(r, &grid),
+            0 => astray(r, grid),
+            1 => position(r, grid),
             _ => {
                 let other = r.pick(&marks).clone();
-                beside(r, &grid, &other)
+                beside(r, grid, &other)
             }
         };
-        store_search(w, &grid, &x);
+        store_search(w, grid, &x);
     }
 
     for _ in 0..LISTINGS {
-        let place = Place::random(r, &grid, &marks);
-        let axis = r.below(ndim as u64) as usize;
-        let (p, q) = (r.pick(&marks)[axis], r.pick(&marks)[axis]);
-        let range = match r.below(4) {
-            0 => Some((axis, p, q)),
-            1 => Some((axis, p.min(q), p.max(q))),
-            _ => None,
-        };
-        place.store(w, &grid, range);
+        store_listing(w, r, grid, &marks);
     }
+    (library, marks)
 }
 
 pub fn libraries() -> Words {
     let mut w = Words::default();
     let mut r = Random::new(11);
+    let mut s = Random::new(12);
     refused_sheets(&mut w);
     for i in 0..LIBRARIES {
-        store_library(&mut w, &mut r, 2 + i % 2);
+        let (mut library, marks) = store_library(&mut w, &mut r, 2 + i % 2);
+        store_strikings(&mut w, &mut s, &mut library, &marks);
+        if i < 4 {
+            store_clearance(&mut w, &mut s, &mut library, &marks);
+        }
     }
     store_distances(&mut w, &mut r);
     w.word(0);

@@ -1,6 +1,6 @@
 //! The files of the program `replay`.
 
-use crate::libraries::{libraries, DISTANCE, INSERT, LIST, SEARCH, SHEET, TABLE};
+use crate::libraries::{libraries, DISTANCE, INSERT, LIST, SEARCH, SHEET, STRIKE, TABLE};
 use crate::meshes::{meshes, BUILD, PROBE};
 
 pub fn libraries_file() -> Vec<u8> {
@@ -17,6 +17,7 @@ pub fn text() -> Vec<u8> {
     let kinds = [
         ("sheets", SHEET),
         ("insertions", INSERT),
+        ("strikings", STRIKE),
         ("searches", SEARCH),
         ("listings", LIST),
         ("tables", TABLE),

@@ -7,7 +7,7 @@ use gemlab::StrError;
 #[derive(Default)]
 pub struct Words {
     pub bytes: Vec<u8>,
-    pub entries: [u64; 10],
+    pub entries: [u64; 32],
 }
 
 impl Words {

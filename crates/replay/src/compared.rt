@@ -81,6 +81,28 @@ pub fn same_floats(fd: i32, got: &[f64], count: u64) -> bool {
     all
 }
 
+// Whether a list has nothing but 0 from an entry on.
+pub fn zero_numbers(got: &[u64], from: usize) -> bool {
+    let mut all = true;
+    let mut i = from;
+    while i < got.len() {
+        all = all && got[i] == 0;
+        i += 1;
+    }
+    all
+}
+
+// The same of +0, by which 1 divided is +infinity.
+pub fn zero_floats(got: &[f64], from: usize) -> bool {
+    let mut all = true;
+    let mut i = from;
+    while i < got.len() {
+        all = all && got[i] == 0.0 && 1.0 / got[i] > 0.0;
+        i += 1;
+    }
+    all
+}
+
 // Whether a number is among the next `count` of the file, which are read.
 pub fn among(fd: i32, number: u64, count: u64) -> bool {
     let mut any = false;
@@ -93,13 +115,13 @@ pub fn among(fd: i32, number: u64, count: u64) -> bool {
     any
 }
 
-// One more entry of a kind.
-pub fn tally(counts: &mut [u64; 20], kind: u64, agrees: bool) {
-    if kind < 10 {
+// One more entry of a kind, of which there is room for 32; those that differ are counted 32 places on.
+pub fn tally(counts: &mut [u64; 64], kind: u64, agrees: bool) {
+    if kind < 32 {
         let at = kind as usize;
         counts[at] = std::num::wrapping_add_u64(counts[at], 1);
         if !agrees {
-            counts[at + 10] = std::num::wrapping_add_u64(counts[at + 10], 1);
+            counts[at + 32] = std::num::wrapping_add_u64(counts[at + 32], 1);
         }
     }
 }

@@ -1,4 +1,4 @@
-// Sheets, insertions, searches, listings, tables and distances.
+// Sheets, insertions, strikings, searches, listings, tables and distances.
 use crate::compared;
 
 // What a result holds before a call that may write it.
@@ -99,6 +99,48 @@ fn insertion(
     let expected = compared::word(fd);
     let rows = compared::word(fd);
     number == expected && *used == rows
+}
+
+// The rows in use are compared where a table comes next, and the entries past them here.
+fn striking(
+    fd: i32,
+    numbers: &[u64],
+    floats: &[f64],
+    keys: &mut [u64],
+    ids: &mut [u64],
+    xs: &mut [f64],
+    ys: &mut [f64],
+    zs: &mut [f64],
+    used: &mut u64,
+) -> bool {
+    let id = compared::word(fd);
+    let mut removed = 7;
+    let number = capi::gemlab_grid_search_strike(
+        numbers,
+        floats,
+        keys,
+        ids,
+        xs,
+        ys,
+        zs,
+        used,
+        id,
+        &mut removed,
+    );
+    let expected = compared::word(fd);
+    let rows = compared::word(fd);
+    if expected != 0 {
+        return number == expected && *used == rows && removed == 7;
+    }
+    let went = compared::word(fd);
+    let past = rows as usize;
+    let no_keys = compared::zero_numbers(keys, past);
+    let no_ids = compared::zero_numbers(ids, past);
+    let no_xs = compared::zero_floats(xs, past);
+    let no_ys = compared::zero_floats(ys, past);
+    let no_zs = compared::zero_floats(zs, past);
+    let cleared = no_keys && no_ids && no_xs && no_ys && no_zs;
+    number == 0 && *used == rows && removed == went && cleared
 }
 
 fn search(
@@ -212,7 +254,7 @@ fn table(
     used == n && same_keys && same_ids && same_xs && same_ys && same_zs
 }
 
-// A call that changes the library: a new sheet, which empties it, or an insertion.
+// A call that changes the library: a new sheet, which empties it, an insertion or a striking.
 fn change(
     fd: i32,
     kind: u64,
@@ -229,7 +271,10 @@ fn change(
         *used = 0;
         return sheet(fd, numbers, floats);
     }
-    insertion(fd, numbers, floats, keys, ids, xs, ys, zs, used)
+    if kind == 2 {
+        return insertion(fd, numbers, floats, keys, ids, xs, ys, zs, used);
+    }
+    striking(fd, numbers, floats, keys, ids, xs, ys, zs, used)
 }
 
 // A call that leaves the library as it is.
@@ -270,7 +315,7 @@ fn entry(
     zs: &mut [f64],
     used: &mut u64,
 ) -> bool {
-    if kind <= 2 {
+    if kind <= 2 || kind == 10 {
         return change(fd, kind, numbers, floats, keys, ids, xs, ys, zs, used);
     }
     question(fd, kind, numbers, floats, keys, ids, xs, ys, zs, *used)
@@ -278,14 +323,15 @@ fn entry(
 
 // The entries of a file, up to the kind 0. A proved loop has to end, so it counts its turns down from a number that no
 // run uses up.
-fn entries(fd: i32, counts: &mut [u64; 20]) {
+fn entries(fd: i32, counts: &mut [u64; 64]) {
     let mut numbers = [0u64; 8];
     let mut floats = [0.0; 17];
-    let mut keys = [0u64; 512];
-    let mut ids = [0u64; 512];
-    let mut xs = [0.0; 512];
-    let mut ys = [0.0; 512];
-    let mut zs = [0.0; 512];
+    // no zeros: a striking has to write them
+    let mut keys = [9u64; 512];
+    let mut ids = [9u64; 512];
+    let mut xs = [BEFORE; 512];
+    let mut ys = [BEFORE; 512];
+    let mut zs = [BEFORE; 512];
     let mut used = 0;
     let mut kind = compared::word(fd);
     let mut turns = u64::MAX;
@@ -308,7 +354,7 @@ fn entries(fd: i32, counts: &mut [u64; 20]) {
     }
 }
 
-pub fn replay(path: &[u8], counts: &mut [u64; 20]) {
+pub fn replay(path: &[u8], counts: &mut [u64; 64]) {
     let fd = os::open_read(path);
     if fd < 0 {
         os::fail(path);

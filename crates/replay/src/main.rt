@@ -5,22 +5,23 @@ mod library;
 mod mesh;
 
 // The entries of a kind, and how many of them differ.
-fn tell(what: &[u8], counts: &[u64; 20], kind: usize) {
-    if kind < 10 {
+fn tell(what: &[u8], counts: &[u64; 64], kind: usize) {
+    if kind < 32 {
         io::write_all(1, what);
         io::print_decimal(1, counts[kind]);
         io::write_all(1, b", ");
-        io::print_decimal(1, counts[kind + 10]);
+        io::print_decimal(1, counts[kind + 32]);
         io::write_all(1, b" differ\n");
     }
 }
 
 fn main() {
-    let mut counts = [0u64; 20];
+    let mut counts = [0u64; 64];
     library::replay(b"libraries.bin", &mut counts);
     mesh::replay(b"meshes.bin", &mut counts);
     tell(b"sheets: ", &counts, 1);
     tell(b"insertions: ", &counts, 2);
+    tell(b"strikings: ", &counts, 10);
     tell(b"searches: ", &counts, 3);
     tell(b"listings: ", &counts, 4);
     tell(b"tables: ", &counts, 5);

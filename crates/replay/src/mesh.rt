@@ -136,7 +136,7 @@ fn entry(
 
 // The builds and searches of a mesh; the kind of the entry after them. A proved loop has to end, so it counts its turns
 // down from a number that no run uses up.
-fn entries(fd: i32, ndim: u64, coords: &[f64], corners: &[u32], counts: &mut [u64; 20]) -> u64 {
+fn entries(fd: i32, ndim: u64, coords: &[f64], corners: &[u32], counts: &mut [u64; 64]) -> u64 {
     let mut keys = [0u64; 512];
     let mut cells = [0u64; 512];
     let mut large = [0u64; 64];
@@ -165,7 +165,7 @@ fn entries(fd: i32, ndim: u64, coords: &[f64], corners: &[u32], counts: &mut [u6
 }
 
 // A mesh and what is asked of it; the kind of the entry after it.
-fn mesh(fd: i32, counts: &mut [u64; 20]) -> u64 {
+fn mesh(fd: i32, counts: &mut [u64; 64]) -> u64 {
     let ndim = compared::word(fd);
     let mut coords = [0.0; 128];
     let n = compared::floats(fd, &mut coords);
@@ -175,7 +175,7 @@ fn mesh(fd: i32, counts: &mut [u64; 20]) -> u64 {
 }
 
 // The meshes of a file, up to the kind 0.
-fn meshes(fd: i32, counts: &mut [u64; 20]) {
+fn meshes(fd: i32, counts: &mut [u64; 64]) {
     let mut kind = compared::word(fd);
     let mut turns = u64::MAX;
     while turns > 0 && kind == 7 {
@@ -184,7 +184,7 @@ fn meshes(fd: i32, counts: &mut [u64; 20]) {
     }
 }
 
-pub fn replay(path: &[u8], counts: &mut [u64; 20]) {
+pub fn replay(path: &[u8], counts: &mut [u64; 64]) {
     let fd = os::open_read(path);
     if fd < 0 {
         os::fail(path);
