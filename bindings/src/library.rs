@@ -70,6 +70,29 @@ pub enum Filter {
     },
 }
 
+/// A call of C on a sheet and a library's lists, by pointers that may be written or not, and what it takes after them.
+macro_rules! on_lists {
+    ($call:ident, $sheet:expr, $library:expr, $pointer:ident, $($rest:expr),+ $(,)?) => {
+        c::$call(
+            $sheet.numbers.as_ptr(),
+            $sheet.numbers.len(),
+            $sheet.floats.as_ptr(),
+            $sheet.floats.len(),
+            $library.keys.$pointer(),
+            $library.keys.len(),
+            $library.ids.$pointer(),
+            $library.ids.len(),
+            $library.xs.$pointer(),
+            $library.xs.len(),
+            $library.ys.$pointer(),
+            $library.ys.len(),
+            $library.zs.$pointer(),
+            $library.zs.len(),
+            $($rest),+
+        )
+    };
+}
+
 impl Library {
     /// A library with space for so many rows, none in use.
     ///
@@ -101,26 +124,7 @@ impl Library {
         // SAFETY: each list is a slice's, an array's or a vector's pointer and length; what is written are fields of
         // `self`, which is borrowed alone: five vectors with memory of their own, and the count.
         let number = unsafe {
-            c::gemlab_grid_search_insert(
-                sheet.numbers.as_ptr(),
-                sheet.numbers.len(),
-                sheet.floats.as_ptr(),
-                sheet.floats.len(),
-                self.keys.as_mut_ptr(),
-                self.keys.len(),
-                self.ids.as_mut_ptr(),
-                self.ids.len(),
-                self.xs.as_mut_ptr(),
-                self.xs.len(),
-                self.ys.as_mut_ptr(),
-                self.ys.len(),
-                self.zs.as_mut_ptr(),
-                self.zs.len(),
-                &mut self.used,
-                id,
-                x.as_ptr(),
-                x.len(),
-            )
+            on_lists!(gemlab_grid_search_insert, sheet, self, as_mut_ptr, &mut self.used, id, x.as_ptr(), x.len())
         };
         Refusal::judge(number)
     }
@@ -133,27 +137,8 @@ impl Library {
         let mut removed = 0;
         // SAFETY: each list is an array's or a vector's pointer and length; what is written are fields of `self`, which is
         // borrowed alone: five vectors with memory of their own, and the count; and a local.
-        let number = unsafe {
-            c::gemlab_grid_search_strike(
-                sheet.numbers.as_ptr(),
-                sheet.numbers.len(),
-                sheet.floats.as_ptr(),
-                sheet.floats.len(),
-                self.keys.as_mut_ptr(),
-                self.keys.len(),
-                self.ids.as_mut_ptr(),
-                self.ids.len(),
-                self.xs.as_mut_ptr(),
-                self.xs.len(),
-                self.ys.as_mut_ptr(),
-                self.ys.len(),
-                self.zs.as_mut_ptr(),
-                self.zs.len(),
-                &mut self.used,
-                id,
-                &mut removed,
-            )
-        };
+        let number =
+            unsafe { on_lists!(gemlab_grid_search_strike, sheet, self, as_mut_ptr, &mut self.used, id, &mut removed) };
         Refusal::judge(number).map(|()| removed)
     }
 
@@ -164,21 +149,11 @@ impl Library {
         let (mut found, mut id) = (0, 0);
         // SAFETY: each list is a slice's, an array's or a vector's pointer and length; what is written are two locals.
         let number = unsafe {
-            c::gemlab_grid_search_search(
-                sheet.numbers.as_ptr(),
-                sheet.numbers.len(),
-                sheet.floats.as_ptr(),
-                sheet.floats.len(),
-                self.keys.as_ptr(),
-                self.keys.len(),
-                self.ids.as_ptr(),
-                self.ids.len(),
-                self.xs.as_ptr(),
-                self.xs.len(),
-                self.ys.as_ptr(),
-                self.ys.len(),
-                self.zs.as_ptr(),
-                self.zs.len(),
+            on_lists!(
+                gemlab_grid_search_search,
+                sheet,
+                self,
+                as_ptr,
                 self.used,
                 x.as_ptr(),
                 x.len(),
@@ -221,21 +196,11 @@ impl Library {
         // SAFETY: each list is a slice's, an array's or a vector's pointer and length, and an empty slice's pointer is
         // aligned and not null too; what is written are a slice that is borrowed alone, and a local.
         let number = unsafe {
-            c::gemlab_grid_search_list(
-                sheet.numbers.as_ptr(),
-                sheet.numbers.len(),
-                sheet.floats.as_ptr(),
-                sheet.floats.len(),
-                self.keys.as_ptr(),
-                self.keys.len(),
-                self.ids.as_ptr(),
-                self.ids.len(),
-                self.xs.as_ptr(),
-                self.xs.len(),
-                self.ys.as_ptr(),
-                self.ys.len(),
-                self.zs.as_ptr(),
-                self.zs.len(),
+            on_lists!(
+                gemlab_grid_search_list,
+                sheet,
+                self,
+                as_ptr,
                 self.used,
                 place,
                 a.as_ptr(),

@@ -1,7 +1,7 @@
 -- The lines of document 01's 'Positions tried' that it marks with a star, and lines for document 02's requests,
 -- evaluated against the definitions that the contracts cite: one list, one proof.
 -- Assumes nothing.
-use Prim.Native.Nat.{ℕ, suc}
+use Prim.Native.Nat.{ℕ}
 use mathlib.Core.Path.{_≡_}
 use mathlib.Core.Bool.{Bool, true, false}
 use mathlib.Core.Option.{Option, none, some}
@@ -94,13 +94,13 @@ unfoldable pub withTolerance : Float → Stated
 unfolding ofSheet newSheet
 withTolerance t = ofSheet (newSheet lowOfS highOfS (count.Given 8) (float.Given t) (float.Given zeroF))
 
--- a library with room for n rows and none in use, whatever stands in it
-unfoldable pub room : ℕ → Library
-room n = record { keys = replicate n 77; ids = replicate n 5; xs = replicate n nan; ys = replicate n (inf true); zs = replicate n half; used = 0 }
+-- a library with room for n rows and so many in use, whatever stands in it; with none in use
+unfoldable pub holding : ℕ → ℕ → Library
+holding n used = record { keys = replicate n 77; ids = replicate n 5; xs = replicate n nan; ys = replicate n (inf true); zs = replicate n half; used = used }
 
--- the same with one row more in use than there is room for
-unfoldable pub overfull : ℕ → Library
-overfull n = record { keys = replicate n 77; ids = replicate n 5; xs = replicate n nan; ys = replicate n (inf true); zs = replicate n half; used = suc n }
+unfoldable pub room : ℕ → Library
+unfolding holding
+room n = holding n 0
 
 -- id 7 at (2, 1), then at (5.5, 2.5); id 8 at (3 - 9/4096, 0.5), or at (6, 3)
 unfoldable pub seven : ℕ → Turn ℕ
@@ -153,7 +153,7 @@ unfoldable pub line : Stated → Stated → Line
 line g s = record { given = g; stated = s }
 
 unfoldable pub lines : List Line
-unfolding line sqrtOf containerOf S find seven moved eight sixThree retire sevenGone closed overfull withTolerance pointCircleAnswer ofDistance ofChange keysOf inTriangle inside
+unfolding line sqrtOf containerOf S find seven moved eight sixThree retire sevenGone closed holding withTolerance pointCircleAnswer ofDistance ofChange keysOf inTriangle inside
 lines =
     -- S has divisions 8 and 4, and side 1
     line (numbers (counts 2 (S .ndiv))) (numbers (8 ∷ 4 ∷ []))
@@ -192,7 +192,7 @@ lines =
     ∷ line (find (sevenGone 8 .library) (pow2 1) (pow2 0)) (nothing)
     ∷ line (ofChange (retire (sevenGone 8 .library) .answer)) (refusal 26)
     -- and damage comes before 26: in a library with more rows in use than it has room for, in which 7 has none
-    ∷ line (ofChange (retire (overfull 2) .answer)) (refusal 13)
+    ∷ line (ofChange (retire (holding 2 3) .answer)) (refusal 13)
     -- with room for 4 rows: beside 7 at (2, 1), 8 at (6, 3) is 12; once 7 is struck off it is accepted, with 4 rows
     ∷ line (ofChange (sixThree (seven 4 .library) .answer)) (refusal 12)
     ∷ line (ofChange (sixThree (sevenGone 4 .library) .answer)) (number 4)
