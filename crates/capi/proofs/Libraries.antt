@@ -1,27 +1,22 @@
 -- What insertion, striking and search tell to C, from what the calls below them ensure.
 -- Assumes nothing.
-use Prim.Native.Nat.{ℕ, _≤_}
-use native.Mathlib.Omega.{arith}
+use Prim.Native.Nat.{ℕ}
 use mathlib.Core.Path.{_≡_, sym, ap, _∙_, subst}
 use mathlib.Core.Option.{Option, none, some}
 use mathlib.Core.List.{List}
-use lib.ListN.{length}
 use lib.Ieee.{Float}
-use Rattle.basics.specs.Refusals.{Answer, refused, success, through, fault}
+use Rattle.basics.specs.Refusals.{Answer, refused, success, through}
 use Rattle.grid_search.specs.declared.GridSearch.{GridSearch}
 use Rattle.rows.specs.declared.Inserted.{Inserted}
 use Rattle.strike.specs.declared.Struck.{Struck}
-use Rattle.strike.specs.declared.Struck.the-variants.{Removed}
 use Rattle.table.specs.declared.ItemId.{ItemId}
 use Rattle.search.specs.declared.Found.{Found}
 use Rattle.search.specs.declared.Found.the-variants.{Id, Nothing, Refused}
 use Rattle.search.specs.Search.{searchAnswer, found}
-use Rattle.table.specs.Rows.{own, without}
-use Rattle.table.specs.Library.{Library, library, table, write, blank}
-use Rattle.rows.specs.Turn.{Turn, settle, Gives}
+use Rattle.table.specs.Library.{Library, library}
+use Rattle.rows.specs.Turn.{Turn, Gives}
 use Rattle.rows.specs.Insert.{insertion, inserted, usedAfter}
-use Rattle.strike.specs.Strike.{strikeTests, striking, struck, leftAfter}
-use Rattle.strike.proofs.Kept.{struck-used}
+use Rattle.strike.specs.Strike.{striking, struck, leftAfter}
 use Rattle.capi.specs.Answers.{number, written}
 use Rattle.capi.specs.Libraries.{ToldTurn, ToldStruck, flag, idAfter, ToldFound}
 
@@ -53,19 +48,6 @@ module _ (l : Library) (i : ℕ) {s s′ : GridSearch} (same : s′ ≡ s) {r : 
   pub told-struck : {a : Struck} (old : ℕ) → r ≡ a → ToldStruck (striking s l i) (number (struck a)) (library keys ids xs ys zs (leftAfter a used)) old (written (struck a) old)
   told-struck old e = let call : GridSearch → Turn ℕ = λ u. striking u l i in
       record { told = turned struck leftAfter call same used g e; removed-is = wrote struck leftAfter call same used g old e }
-
--- no more rows go than are in use
-module _ (s : GridSearch) (l : Library) (i : ℕ) where
-  at-most : written (striking s l i .answer) 0 ≤ l .used
-  unfolding striking settle
-  at-most = go (fault (strikeTests s l i))
-    where
-      go : (o : Option ℕ) → written (settle o (length (own i (table l))) (write (without i (table l)) (blank l)) l .answer) 0 ≤ l .used
-      go none = omega (arith, struck-used l i)
-      go (some n) = omega arith
-
-  pub removed-at-most : {r : Struck} {n : ℕ} {after : Library} → Gives (striking s l i) (struck r) after → r ≡ Removed n → n ≤ l .used
-  removed-at-most g e = omega (arith, ap (λ (b : Answer ℕ). written b 0) (sym (ap struck e) ∙ g .answers), at-most)
 
 -- ---- a search, for a mark or for a cell
 

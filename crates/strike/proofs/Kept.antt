@@ -1,15 +1,15 @@
 -- A striking that is accepted leaves a library that passes 24 and 13, in the same space.
 -- Assumes nothing.
-use Prim.Native.Nat.{ℕ, _+_}
+use Prim.Native.Nat.{ℕ, _+_, _≤_}
 use native.Mathlib.Omega.{arith}
-use mathlib.Core.Path.{_≡_, refl, sym, _∙_}
+use mathlib.Core.Path.{_≡_, refl, sym, ap, _∙_}
 use mathlib.Core.Bool.{true}
-use mathlib.Core.Option.{none}
+use mathlib.Core.Option.{Option, none, some}
 use mathlib.Core.List.{map}
 use lib.ListN.{length}
 use borrow.Author.Tests.{not-false}
 use Rattle.basics.specs.Lists.{has}
-use Rattle.basics.specs.Refusals.{fault}
+use Rattle.basics.specs.Refusals.{fault, Answer, refused, success}
 use Rattle.basics.proofs.Refusals.{unrefused, fault-left, fault-right}
 use Rattle.grid_search.specs.declared.GridSearch.{GridSearch}
 use Rattle.table.specs.Rows.{idIn, own, without}
@@ -17,9 +17,12 @@ use Rattle.table.specs.Library.{Library, table, write, blank, space, roomy}
 use Rattle.table.proofs.Ids.{length-without, length-parts, sorted-without, all-without}
 use Rattle.table.proofs.Libraries.{length-table, table-write, write-used, space-anew, roomy-table, roomy-fewer, room-for, layout-kept}
 use Rattle.rows.specs.Damage.{goodRow, libraryTests}
+use Rattle.rows.specs.Turn.{settle, Gives}
 use Rattle.rows.proofs.Check.{Whole, whole, not-long, whole-passes}
 use Rattle.rows.proofs.Kept.{settle-keeps}
-use Rattle.strike.specs.Strike.{idTests, strikeTests, striking}
+use Rattle.strike.specs.declared.Struck.{Struck}
+use Rattle.strike.specs.declared.Struck.the-variants.{Removed}
+use Rattle.strike.specs.Strike.{idTests, strikeTests, striking, struck}
 
 -- ---- a striking that is accepted
 
@@ -71,3 +74,22 @@ module _ (s : GridSearch) (l : Library) (i : ℕ) where
   pub striking-passes : fault (libraryTests s l) ≡ none → fault (libraryTests s (striking s l i .library)) ≡ none
   unfolding striking
   striking-passes v = settle-keeps (λ (m : Library). fault (libraryTests s m) ≡ none) (fault (strikeTests s l i)) _ _ l (struck-passes s l i) v
+
+-- ---- no more rows go than are in use: what is left is their difference
+
+amount : Answer ℕ → ℕ
+amount (refused n) = 0
+amount (success n) = n
+
+module _ (s : GridSearch) (l : Library) (i : ℕ) where
+  at-most : amount (striking s l i .answer) ≤ l .used
+  unfolding amount striking settle
+  at-most = go (fault (strikeTests s l i))
+    where
+      go : (o : Option ℕ) → amount (settle o (length (own i (table l))) (write (without i (table l)) (blank l)) l .answer) ≤ l .used
+      go none = omega (arith, struck-used l i)
+      go (some n) = omega arith
+
+  pub removed-at-most : {r : Struck} {n : ℕ} {after : Library} → Gives (striking s l i) (struck r) after → r ≡ Removed n → n ≤ l .used
+  unfolding amount
+  removed-at-most g e = omega (arith, ap amount (sym (ap struck e) ∙ g .answers), at-most)

@@ -1,7 +1,8 @@
 -- `gemlab_grid_search_strike` meets its contract: one law of its answers.
 -- Assumes nothing.
 use borrow.Author.Needs.{needs}
-use Rattle.capi.proofs.Libraries.{told-struck, removed-at-most}
+use Rattle.strike.proofs.Kept.{removed-at-most}
+use Rattle.capi.proofs.Libraries.{told-struck}
 use Rattle.capi.proofs.library.gemlab_grid_search_strike.Statement.{statement}
 use Rattle.capi.proofs.library.gemlab_grid_search_strike.Tie as tie
 
