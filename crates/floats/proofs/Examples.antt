@@ -3,8 +3,9 @@
 use mathlib.Core.Path.{_≡_, refl}
 use mathlib.Core.Bool.{Bool, true, false}
 use lib.IntN.{pos, negsuc}
-use lib.Ieee.{nan, fin, binary64, ofBits, toBits}
+use lib.Ieee.{nan, fin, binary64, mul, ofBits, toBits}
 use mathlib.Core.List.{List, [], _∷_}
+use Rattle.floats.specs.Rounded.{_⊗_}
 use Rattle.floats.specs.Ceil.{ceilOf}
 use Rattle.floats.specs.Sqrt.{sqrtOf}
 use Rattle.floats.proofs.Nearer.{nearerRoot}
@@ -73,6 +74,15 @@ sqrt-minus-zero = refl
 sqrt-minus-one : sqrtOf (fin true 1 (pos 0)) ≡ nan
 unfolding sqrtOf
 sqrt-minus-one = refl
+
+-- of a rounded square: 0.1 comes back. The square of 3 * 2 ^ -539 is too small, and what comes back is 4 * 2 ^ -539
+sqrt-square : toBits binary64 (let x = ofBits binary64 0x3FB9_9999_9999_999A in sqrtOf (x ⊗ x)) ≡ 0x3FB9_9999_9999_999A
+unfolding sqrtOf ofBits toBits mul
+sqrt-square = refl
+
+sqrt-small-square : (let x = fin false 3 (negsuc 538) in sqrtOf (x ⊗ x)) ≡ fin false 1 (negsuc 536)
+unfolding sqrtOf mul
+sqrt-small-square = refl
 
 -- ---- the test whether a value is nearer: of the root of 2 and the values just above and just below it it tells that the root is nearer than the one below
 nearer-2 : List Bool

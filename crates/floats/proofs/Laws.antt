@@ -1,4 +1,5 @@
--- The laws of module 1 at binary64, in one place. `Roots.antt`, `Exact.antt`, `Nearer.antt`, `Whole.antt`, `Least.antt`, `Order.antt`, `Choice.antt` and `Unique.antt` have the proofs, and more laws.
+-- The laws of module 1 at binary64, in one place. The proofs, and more laws, are in `Roots.antt`, `Exact.antt`, `Nearer.antt`, `Product.antt`, `Whole.antt`, `Least.antt`, `Order.antt`,
+-- `Choice.antt` and `Unique.antt`.
 -- Assumes nothing.
 use mathlib.Core.Path.{_≡_}
 use Prim.Native.Nat.{ℕ, _*_, _^_, _<_}
@@ -8,11 +9,12 @@ use lib.IntN.{ℤ}
 use lib.Ieee.{Float, fin, binary64, up, down, lt, le}
 use lib.Ieee.Exact.{HasValue}
 use lib.Ieee.Positive.{positive}
-use Rattle.floats.specs.Rounded.{zeroF, truncate}
+use Rattle.floats.specs.Rounded.{_⊗_, zeroF, pow2, pow2⁻, truncate}
 use Rattle.floats.specs.Sqrt.{sqrtOf}
 use Rattle.floats.proofs.Exact.{Nearest, sqrt-nearest}
-use Rattle.floats.proofs.Roots.{sqrt-fits, sqrt-monotone, sqrt-square, sqrt-sign, sqrt-not-below}
+use Rattle.floats.proofs.Roots.{sqrt-fits, sqrt-monotone, sqrt-no-less, sqrt-square, sqrt-sign, sqrt-not-below}
 use Rattle.floats.proofs.Nearer.{nearerRoot, root-is-finite, none-nearer}
+use Rattle.floats.proofs.Product.{product-root}
 use Rattle.floats.proofs.Whole.{WholePart, truncate-whole}
 use Rattle.floats.specs.Ceil.{ceilOf}
 use Rattle.floats.proofs.Least.{Next, ceil-least}
@@ -40,10 +42,19 @@ pub root-monotone : (x y : Float) → Binary64 x → Binary64 y → le zeroF x �
 unfolding sqrtOf
 root-monotone x y h k z o = sqrt-monotone binary64 x y h k z o
 
+-- and of any two the root of the larger is not below that of the smaller: no NaN is below anything
+pub root-no-less : (x y : Float) → Binary64 x → Binary64 y → le x y ≡ true → lt (sqrtOf y) (sqrtOf x) ≡ false
+unfolding sqrtOf
+root-no-less x y h k o = sqrt-no-less binary64 x y h k o
+
 -- where y is a / c and x its square, the root of x is y
 pub root-square : (x y : Float) (a c : ℕ) → 0 < c → Binary64 x → Binary64 y → HasValue y false a c → HasValue x false (a * a) (c * c) → sqrtOf x ≡ y
 unfolding sqrtOf
 root-square x y a c C h k v w = sqrt-square binary64 x y a c C h k v w
+
+-- nor does rounding the square change that, where the square is neither too small nor too large
+pub root-of-product : (r : Float) → Binary64 r → le (pow2⁻ 500) r ≡ true → le r (pow2 500) ≡ true → sqrtOf (r ⊗ r) ≡ r
+root-of-product r h lo hi = product-root r h lo hi
 
 -- no root is below zero, and only that of -0 has a minus sign
 pub root-not-below : (x : Float) → lt (sqrtOf x) zeroF ≡ false

@@ -10,6 +10,7 @@ pub mod Roots
 pub mod Nearer
 pub mod Whole
 pub mod Least
+pub mod Product
 pub mod Laws
 pub mod Reading
 pub mod Limit

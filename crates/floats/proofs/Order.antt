@@ -4,7 +4,7 @@ use mathlib.Core.Path.{_≡_, refl, sym, ap, ap₂, _∙_, subst}
 use Prim.Native.Nat.{ℕ, zero, suc, _+_, _*_, _≤_, _<_, zero-le}
 use native.Mathlib.Nat.{le-trans, le-of-eq, le-refl, lt-irrefl, zero-mul, mul-pos}
 use native.Mathlib.Omega.{arith}
-use mathlib.Core.Logic.{_⊎_, inl, inr}
+use mathlib.Core.Logic.{_⊎_, inl, inr, ⊎-elim}
 use mathlib.Core.Bool.{Bool, true, false, not, _&&_, _||_, Bool·beq, true≢false, false≢true, and-true, and-false}
 use lib.Dec.{leb, ltb, eqb, eqb·zero-suc, eqb·suc-zero}
 use lib.IntN.{ℤ}
@@ -12,7 +12,7 @@ use lib.Ieee.{Float, nan, inf, fin, up, down, lt, le, eq, isNan}
 use lib.Ieee.Fits.{down-pos}
 use lib.Ieee.Positive.{through}
 use borrow.Author.Tests.{ltb-true, ltb-false, leb-true, eqb-true, eqb-false, lt-ltb, le-leb, lt-leb, eq-eqb, ne-eqb}
-use Rattle.basics.proofs.Bools.{which, by-test, clash, and-both, both}
+use Rattle.basics.proofs.Bools.{which, by-test, clash, and-both, both, or-either, or-true}
 use Rattle.basics.proofs.Numbers.{at-most}
 
 -- ---- `<=` of two finite values in one comparison: of ±a and ±b, the two over a common denominator
@@ -298,3 +298,26 @@ le-join (fin s m e) (fin t n d) (inf u) h k = le-to-infinite s u m e ∙ sym (le
 le-join (fin s m e) (fin t n d) (fin u l c) h k =
     le-finite s m e u l c
     ∙ join (m * up e) (n * up d) (l * up c) (down e) (down d) (down c) (down-pos e) (down-pos d) (down-pos c) s t u (sym (le-finite s m e t n d) ∙ h) (sym (le-finite t n d u l c) ∙ k)
+
+-- ---- equal is at most, both ways
+pub eq-le : (x y : Float) → eq x y ≡ true → le x y ≡ true
+unfolding le
+eq-le x y h = or-true (lt x y) h
+
+le-either : (x y : Float) → le x y ≡ true → (lt x y || eq x y) ≡ true
+unfolding le
+le-either x y h = h
+
+pub lt-not-le : (x y : Float) → lt x y ≡ true → le y x ≡ false
+lt-not-le x y h =
+    let k = lt-le x y h in
+    by-test (le y x) (λ g. clash h (lt-is-not-le x y (le-left x y k) (le-right x y k) ∙ ap not g)) (λ g. g)
+
+pub le-not-lt : (x y : Float) → le x y ≡ true → lt y x ≡ false
+le-not-lt x y h = lt-is-not-le y x (le-right x y h) (le-left x y h) ∙ ap not h
+
+pub not-le-lt : (x y : Float) → isNan x ≡ false → isNan y ≡ false → le y x ≡ false → lt x y ≡ true
+not-le-lt x y p q h = lt-is-not-le x y p q ∙ ap not h
+
+pub le-eq : (x y : Float) → le x y ≡ true → le y x ≡ true → eq x y ≡ true
+le-eq x y h k = ⊎-elim (λ l. clash k (lt-not-le x y l)) (λ e. e) (or-either (lt x y) (eq x y) (le-either x y h))

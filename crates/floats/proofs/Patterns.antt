@@ -21,7 +21,7 @@ unfolding sqrtOf
 sqrt-odd q k Q = sqrt-value binary64 (odd 53 false q k 1074) (q * 2 ^ k) (mul-pos Q (pow-pos k)) (odd-sign 53 false q k 1074)
 
 -- ---- the root of s * 2 ^ 52 * 4 ^ k units
-near : (s q k : ℕ) → 2 ^ 52 ≤ s → s < 2 ^ 54 → Rounded (s * 2 ^ 52) q → Near 53 (s * 2 ^ 52 * (2 ^ k * 2 ^ k)) q k
+pub near : (s q k : ℕ) → 2 ^ 52 ≤ s → s < 2 ^ 54 → Rounded (s * 2 ^ 52) q → Near 53 (s * 2 ^ 52 * (2 ^ k * 2 ^ k)) q k
 near s q k A B w =
     let u = 2 ^ k * 2 ^ k in
     let S = s * 2 ^ 52 in
@@ -47,7 +47,7 @@ written s q k A B K w =
     }
 
 -- h is 52 or 53 more than twice k
-spread : (d k : ℕ) → 2 ^ (d + (k + k)) ≡ 2 ^ d * (2 ^ k * 2 ^ k)
+pub spread : (d k : ℕ) → 2 ^ (d + (k + k)) ≡ 2 ^ d * (2 ^ k * 2 ^ k)
 spread d k = pow-add 2 d (k + k) ∙ ap (λ (x : ℕ). 2 ^ d * x) (pow-add 2 k k)
 
 pub at-even : (a h q : ℕ) → 2 ^ 52 ≤ a → a < 2 ^ 53 → 1022 ≤ h → h ≤ 3119 → h % 2 ≡ 0 → Rounded (a * 2 ^ 52) q → Written (rootOf 53 1074 (a * 2 ^ h)) ((h / 2 - 26) * 2 ^ 52 + q)

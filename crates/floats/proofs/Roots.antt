@@ -16,12 +16,12 @@ use lib.Ieee.Fits.{two, two-le-pos, reach, up-pos, odd-fits, nan-fits}
 use lib.Ieee.Order.{le-of-values}
 use lib.Ieee.Positive.{positive, value-pos, positive-of-value, values-of-le, above, above-of-le}
 use borrow.Author.Tests.{le-ltb, ne-eqb}
-use Rattle.basics.proofs.Bools.{clash}
+use Rattle.basics.proofs.Bools.{by-test, clash}
 use Rattle.floats.specs.Rounded.{zeroF}
 use Rattle.floats.specs.Sqrt.{root, rootOf, sqrtIn}
 use Rattle.floats.proofs.Near.{Near, square-suc, square-double, lower-k, lower-q, root-of-near, sqrt-value}
 use Rattle.floats.proofs.Exact.{Nearest, sqrt-nearest, in-units, pow-lt-back}
-use Rattle.floats.proofs.Order.{le-self, le-join, not-lt-le, le-left, le-right}
+use Rattle.floats.proofs.Order.{le-self, le-join, not-lt-le, le-left, le-right, lt-le, le-not-lt}
 use Rattle.floats.proofs.Held.{fits-held, one-size, rescale}
 use Rattle.floats.proofs.Unique.{value-unique}
 
@@ -312,3 +312,19 @@ pub sqrt-square : (f : Format) (x y : Float) (a c : ℕ) → 0 < c → T (fits f
 sqrt-square f x y zero c C h k v w =
     zero-value x (c * c) (mul-pos C C) w f ∙ value-unique f x y false 0 (c * c) (mul-pos C C) h k w (rescale y false 0 c 0 (c * c) C (zero-mul (c * c) ∙ sym (zero-mul c)) v)
 sqrt-square f x y (suc a) c C h k v w = positive-square f x y (suc a) c (zero-lt-suc a) C h k v w
+
+-- ---- of any two, NaN and those below zero too
+-- where there is no root
+sqrt-none : (f : Format) (x : Float) → le zeroF x ≡ false → isNan (sqrtIn f x) ≡ true
+unfolding sqrtIn isNan
+sqrt-none f nan h = refl
+sqrt-none f (inf true) h = refl
+sqrt-none f (inf false) h = clash (not-lt-le zeroF (inf false) zero-number refl infinity-not-below) h
+sqrt-none f (fin s zero e) h = clash (not-lt-le zeroF (fin s zero e) zero-number refl (zero-not-below s e)) h
+sqrt-none f (fin true (suc m) e) h = refl
+sqrt-none f (fin false (suc m) e) h = clash (not-lt-le zeroF (fin false (suc m) e) zero-number refl (not-below (suc m) e)) h
+
+pub sqrt-no-less : (f : Format) (x y : Float) → T (fits f x) → T (fits f y) → le x y ≡ true → lt (sqrtIn f y) (sqrtIn f x) ≡ false
+sqrt-no-less f x y h k o =
+    by-test (le zeroF x) (λ z. le-not-lt (sqrtIn f x) (sqrtIn f y) (sqrt-monotone f x y h k z o))
+    (λ z. by-test (lt (sqrtIn f y) (sqrtIn f x)) (λ g. clash (sqrt-none f x z) (le-right (sqrtIn f y) (sqrtIn f x) (lt-le (sqrtIn f y) (sqrtIn f x) g))) (λ g. g))
