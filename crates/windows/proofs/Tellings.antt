@@ -1,28 +1,36 @@
--- What a square tells of all above or below it: the distance that it tells keeps the order.
+-- What a square tells of all above or below it: the distance that it tells keeps the order, and that of a square made from its root is the one at the root.
 -- Assumes nothing.
 use Prim.Native.Nat.{ℕ}
 use mathlib.Core.Path.{_≡_, refl, sym, ap, _∙_, subst}
 use mathlib.Core.Logic.{_⊎_, inl, inr}
-use mathlib.Core.Bool.{true, false, and-false}
-use lib.Ieee.{Float, nan, inf, fin, binary64, neg, lt, le, eq, isNan}
+use mathlib.Core.Bool.{Bool, true, false, not, and-false}
+use lib.Dec.{T}
+use lib.Ieee.{Float, nan, inf, fin, binary64, mul, neg, lt, le, eq, isNan}
+use lib.Ieee.Bits.{is-true}
+use lib.Ieee.Fits.{mul-fits}
+use lib.Ieee.Positive.{between, mul-mono}
 use borrow.Author.Tests.{not-true}
 use Rattle.basics.proofs.Bools.{by-test, clash}
-use Rattle.floats.specs.Rounded.{_⊖_, zeroF}
+use Rattle.floats.specs.Rounded.{_⊖_, _⊗_, zeroF, pow2, pow2⁻}
 use Rattle.floats.specs.Sqrt.{sqrtOf}
 use Rattle.floats.specs.Tests.{absOf, finite, within, Binary64}
 use Rattle.floats.proofs.Choice.{abs-abs, within-ends}
 use Rattle.floats.proofs.Order.{le-left, le-right, le-join, lt-le, lt-is-not-le}
 use Rattle.floats.proofs.Roots.{is-nan, zero-number, no-minus-infinity, zero-least, sqrt-number, sqrt-from-zero}
-use Rattle.floats.proofs.Laws.{root-monotone, root-sign}
+use Rattle.floats.proofs.Laws.{root-monotone, root-sign, root-of-product}
 use Rattle.windows.specs.declared.Distance.{Distance}
 use Rattle.windows.specs.declared.Distance.the-variants.{Root, RootLess}
-use Rattle.windows.specs.Window.{toldBy, steady, lies}
+use Rattle.windows.specs.Window.{distanceAt, toldBy, steady, lies, Rooted, Square}
 use Rattle.windows.proofs.Less.{Plus, less-mono}
 
 -- ---- a square above zero
 
 above : (s : Float) → lt zeroF s ≡ true → le s zeroF ≡ false
 above s z = not-true _ (sym (lt-is-not-le zeroF s zero-number (le-right zeroF s (lt-le zeroF s z))) ∙ z)
+
+-- and what is not below it
+up-from : (s t : Float) → lt zeroF s ≡ true → le s t ≡ true → lt zeroF t ≡ true
+up-from s t z h = lt-is-not-le zeroF t zero-number (le-right s t h) ∙ ap not (by-test (le t zeroF) (λ g. clash (le-join s t zeroF h g) (above s z)) (λ g. g))
 
 -- its root has no minus sign
 root-plus : (s : Float) → le zeroF s ≡ true → le s zeroF ≡ false → Plus (sqrtOf s)
@@ -42,40 +50,60 @@ module _ (s t : Float) (S : Binary64 s) (U : Binary64 t) (z : lt zeroF s ≡ tru
   from-zero : le zeroF s ≡ true
   from-zero = lt-le zeroF s z
 
-  far-above : le t zeroF ≡ false
-  far-above = by-test (le t zeroF) (λ g. clash (le-join s t zeroF h g) (above s z)) (λ g. g)
-
   roots : le (sqrtOf s) (sqrtOf t) ≡ true
   roots = root-monotone s t S U from-zero h
 
   less-roots : (r : Float) → finite r ≡ true → le (sqrtOf s ⊖ r) (sqrtOf t ⊖ r) ≡ true
-  less-roots r f = less-mono (sqrtOf s) (sqrtOf t) r (root-plus s from-zero (above s z)) (root-plus t (le-join zeroF s t from-zero h) far-above) f roots
+  less-roots r f = less-mono (sqrtOf s) (sqrtOf t) r (root-plus s from-zero (above s z)) (root-plus t (le-join zeroF s t from-zero h) (above t (up-from s t z h))) f roots
 
   pub told-mono : (d : Distance) → steady d ≡ true → le (toldBy d s) (toldBy d t) ≡ true
   unfolding toldBy steady
   told-mono Root e = roots
   told-mono (RootLess r) e = less-roots r e
 
--- ---- the four squares of a window
+-- ---- a number that is the root of its own square
 
-pub no-nan : {X : Type 0} (s : Float) → le nan s ≡ true → X
-no-nan s h = clash is-nan (le-left nan s h)
+least-above : lt zeroF (pow2⁻ 500 ⊗ pow2⁻ 500) ≡ true
+unfolding lt mul
+least-above = refl
 
-pub no-nan-above : {X : Type 0} (s : Float) → le s nan ≡ true → X
-no-nan-above s h = clash is-nan (le-right s nan h)
+pub rooted : (x : Float) → Binary64 x → le (pow2⁻ 500) x ≡ true → le x (pow2 500) ≡ true → Rooted x
+rooted x X lo hi =
+    let p = between (pow2⁻ 500) x (pow2 500) tt tt (subst T (sym lo) tt) (subst T (sym hi) tt) in
+    record {
+      back = root-of-product x X lo hi;
+      above = up-from (pow2⁻ 500 ⊗ pow2⁻ 500) (x ⊗ x) least-above (is-true _ (mul-mono binary64 (pow2⁻ 500) x (pow2⁻ 500) x tt p tt p (subst T (sym lo) tt) (subst T (sym lo) tt)));
+    }
 
-module _ (d : Distance) (b c : Float) (C : Binary64 c) (e : steady d ≡ true) (z : lt zeroF c ≡ true) where
-  pub low-tells : le b (toldBy d c) ≡ true → (s : Float) → Binary64 s → le c s ≡ true → le b (toldBy d s) ≡ true
-  low-tells k s S h = le-join b (toldBy d c) (toldBy d s) k (told-mono c s C S z h d e)
+-- so its square tells its distance
+module _ (d : Distance) (x : Float) (e : steady d ≡ true) (w : Rooted x) where
+  at-root : toldBy d (x ⊗ x) ≡ distanceAt d x
+  unfolding toldBy
+  at-root = ap (distanceAt d) (w .back)
 
-  pub over-tells : le (toldBy d c) b ≡ false → (s : Float) → Binary64 s → le c s ≡ true → le (toldBy d s) b ≡ false
-  over-tells k s S h = by-test (le (toldBy d s) b) (λ g. clash (le-join (toldBy d c) (toldBy d s) b (told-mono c s C S z h d e) g) k) (λ g. g)
+  pub is-square : (passed : Bool) → passed ≡ true → Square d x passed (x ⊗ x)
+  is-square passed p = record {
+    above = λ s S h. (p, subst (λ (v : Float). le v (toldBy d s) ≡ true) at-root (told-mono (x ⊗ x) s (mul-fits binary64 x x) S (w .above) h d e));
+    below = λ s S z h. (p, subst (λ (v : Float). le (toldBy d s) v ≡ true) at-root (told-mono s (x ⊗ x) S (mul-fits binary64 x x) z h d e));
+  }
 
-  pub high-tells : le (toldBy d c) b ≡ true → (s : Float) → Binary64 s → lt zeroF s ≡ true → le s c ≡ true → le (toldBy d s) b ≡ true
-  high-tells k s S y h = le-join (toldBy d s) (toldBy d c) b (told-mono s c S C y h d e) k
+pub no-square : (d : Distance) (x : Float) (passed : Bool) → Square d x passed nan
+no-square d x passed = record { above = λ s S h. clash is-nan (le-left nan s h); below = λ s S z h. clash is-nan (le-right s nan h) }
 
-  pub under-tells : le b (toldBy d c) ≡ false → (s : Float) → Binary64 s → lt zeroF s ≡ true → le s c ≡ true → le b (toldBy d s) ≡ false
-  under-tells k s S y h = by-test (le b (toldBy d s)) (λ g. clash (le-join b (toldBy d s) (toldBy d c) g (told-mono s c S C y h d e)) k) (λ g. g)
+-- ---- the four squares of a window, by the test that passed at the distance v of a root
+
+module _ (d : Distance) (b x v c : Float) (e : v ≡ distanceAt d x) where
+  pub from-tells : Square d x (le b v) c → (s : Float) → Binary64 s → le c s ≡ true → le b (toldBy d s) ≡ true
+  from-tells q s S h = let w = q .above s S h in le-join b v (toldBy d s) (w .0) (rw e (w .1))
+
+  pub above-tells : Square d x (not (le v b)) c → (s : Float) → Binary64 s → le c s ≡ true → le (toldBy d s) b ≡ false
+  above-tells q s S h = let w = q .above s S h in by-test (le (toldBy d s) b) (λ g. clash (le-join v (toldBy d s) b (rw e (w .1)) g) (not-true _ (w .0))) (λ g. g)
+
+  pub within-tells : Square d x (le v b) c → (s : Float) → Binary64 s → lt zeroF s ≡ true → le s c ≡ true → le (toldBy d s) b ≡ true
+  within-tells q s S z h = let w = q .below s S z h in le-join (toldBy d s) v b (rw e (w .1)) (w .0)
+
+  pub below-tells : Square d x (not (le b v)) c → (s : Float) → Binary64 s → lt zeroF s ≡ true → le s c ≡ true → le b (toldBy d s) ≡ false
+  below-tells q s S z h = let w = q .below s S z h in by-test (le b (toldBy d s)) (λ g. clash (le-join b (toldBy d s) v g (rw e (w .1))) (not-true _ (w .0))) (λ g. g)
 
 -- ---- in a window or out of it
 

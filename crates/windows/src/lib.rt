@@ -1,11 +1,23 @@
 // Distances told by their squares, with no root. A root keeps the order, and so does its difference from a radius: a square
-// whose distance was tried once tells of every larger or every smaller one.
+// whose distance is known tells of every larger or every smaller one. That square is made from its root, with none taken.
 ghost use mathlib.Core.Path.{_≡_};
 ghost use mathlib.Core.Bool.{true, false};
 ghost use lib.Ieee.{Float, lt, le};
 ghost use Rattle.floats.specs.Rounded.{zeroF};
 ghost use Rattle.floats.specs.Tests.{Binary64};
-ghost use Rattle.windows.specs.Window.{toldBy, steady, lies, Tells};
+ghost use Rattle.windows.specs.Window.{distanceAt, toldBy, steady, lies, Rooted, Square, Tells};
+
+// The least root of which a square is made. The square of a far smaller one is rounded to fewer digits.
+const LEAST: f64 = 1e-150;
+
+// The largest. The square of a far larger one is infinite.
+const LARGEST: f64 = 1e150;
+
+// A root times this is just above it, by more than what rounding changes.
+const ABOVE: f64 = 1.0000000000001;
+
+// A root times this is just below it.
+const BELOW: f64 = 0.9999999999999;
 
 // What a square tells: its root, or the root less a radius.
 pub enum Distance {
@@ -24,14 +36,29 @@ pub struct Window {
     pub over: f64,
 }
 
+// The distance at a root.
+fn distance_at(d: Distance, root: f64) -> f64
+    ensures { λ r. ⌜ r ≡ distanceAt d root ⌝ }
+{
+    match d {
+        Distance::Root => root,
+        Distance::RootLess(radius) => root - radius,
+    }
+}
+
+// The root at a distance, but for rounding.
+fn root_at(d: Distance, distance: f64) -> f64 {
+    match d {
+        Distance::Root => distance,
+        Distance::RootLess(radius) => radius + distance,
+    }
+}
+
 // The distance that a square tells.
 pub fn told(d: Distance, s: f64) -> f64
     ensures { λ r. ⌜ r ≡ toldBy d s ⌝ }
 {
-    match d {
-        Distance::Root => floats::sqrt(s),
-        Distance::RootLess(radius) => floats::sqrt(s) - radius,
-    }
+    distance_at(d, floats::sqrt(s))
 }
 
 // Whether a larger square has no smaller distance.
@@ -44,81 +71,72 @@ fn is_steady(d: Distance) -> bool
     }
 }
 
-// A square from which on distances are at least a bound: c, where that is seen at c itself, else a NaN.
-fn low_of(d: Distance, from: f64, c: f64) -> f64
+// Whether a number is surely the root of its own square, both rounded.
+fn is_root(x: f64) -> bool
+    ensures { λ r. ⌜ (r ≡ true → Rooted x) ⌝ }
+{
+    (LEAST <= x) & (x <= LARGEST)
+}
+
+// The square of a root at whose distance a test passed. Where none did, or where the square tells nothing, a NaN.
+fn square_of(d: Distance, root: f64, passed: bool) -> f64
+    ensures { λ r. ⌜ Square d root passed r ⌝ }
+{
+    if passed & (is_steady(d) & is_root(root)) {
+        root * root
+    } else {
+        0.0 / 0.0
+    }
+}
+
+// A root beside m, where m is above zero, and else the least.
+fn beside(m: f64, factor: f64) -> f64 {
+    if m > 0.0 { m * factor } else { LEAST }
+}
+
+// A square from which on distances are at least a bound, or a NaN.
+fn square_from(d: Distance, from: f64) -> f64
     ensures { λ r. ⌜ ((s : Float) → Binary64 s → le r s ≡ true → le from (toldBy d s) ≡ true) ⌝ }
 {
-    if is_steady(d) & ((0.0 < c) & (from <= told(d, c))) {
-        c
-    } else {
-        0.0 / 0.0
-    }
+    let root = beside(root_at(d, from), ABOVE);
+    square_of(d, root, from <= distance_at(d, root))
 }
 
-// A square up to which distances are below a bound.
-fn under_of(d: Distance, from: f64, c: f64) -> f64
+// A square up to which distances are below a bound, or a NaN.
+fn square_below(d: Distance, from: f64) -> f64
     ensures { λ r. ⌜ ((s : Float) → Binary64 s → lt zeroF s ≡ true → le s r ≡ true → le from (toldBy d s) ≡ false) ⌝ }
 {
-    if is_steady(d) & ((0.0 < c) & !(from <= told(d, c))) {
-        c
-    } else {
-        0.0 / 0.0
-    }
+    let root = beside(root_at(d, from), BELOW);
+    square_of(d, root, !(from <= distance_at(d, root)))
 }
 
-// A square up to which distances are at most a bound.
-fn high_of(d: Distance, to: f64, c: f64) -> f64
+// A square up to which distances are at most a bound, or a NaN.
+pub fn square_within(d: Distance, to: f64) -> f64
     ensures { λ r. ⌜ ((s : Float) → Binary64 s → lt zeroF s ≡ true → le s r ≡ true → le (toldBy d s) to ≡ true) ⌝ }
 {
-    if is_steady(d) & ((0.0 < c) & (told(d, c) <= to)) {
-        c
-    } else {
-        0.0 / 0.0
-    }
+    let root = beside(root_at(d, to), BELOW);
+    square_of(d, root, distance_at(d, root) <= to)
 }
 
-// A square from which on distances are above a bound.
-fn over_of(d: Distance, to: f64, c: f64) -> f64
-    ensures { λ r. ⌜ ((s : Float) → Binary64 s → le r s ≡ true → le (toldBy d s) to ≡ false) ⌝ }
-{
-    if is_steady(d) & ((0.0 < c) & !(told(d, c) <= to)) {
-        c
-    } else {
-        0.0 / 0.0
-    }
-}
-
-// A guess at the square of a root that lies just beside m, where m is above zero, and else some small number.
-fn beside(m: f64, factor: f64) -> f64 {
-    if m > 0.0 { m * m * factor } else { 1e-300 }
-}
-
-// The root of a distance.
-fn root_at(d: Distance, distance: f64) -> f64 {
-    match d {
-        Distance::Root => distance,
-        Distance::RootLess(radius) => radius + distance,
-    }
-}
-
-// A square from which on distances are above a bound, or a NaN, for which there is one root to take.
+// A square from which on distances are above a bound, or a NaN.
 pub fn square_above(d: Distance, to: f64) -> f64
     ensures { λ r. ⌜ ((s : Float) → Binary64 s → le r s ≡ true → le (toldBy d s) to ≡ false) ⌝ }
 {
-    over_of(d, to, beside(root_at(d, to), 1.0000000000001))
+    let root = beside(root_at(d, to), ABOVE);
+    square_of(d, root, !(distance_at(d, root) <= to))
 }
 
 impl Window {
-    // The window of the distances from one bound to another, for which there are four roots to take.
+    // The window of the distances from one bound to another.
     pub fn new(d: Distance, from: f64, to: f64) -> Window
         ensures { λ r. ⌜ Tells d r ⌝ ∗ ⌜ r .from ≡ from ⌝ ∗ ⌜ r .to ≡ to ⌝ }
     {
         Window {
             from,
             to,
-            low: low_of(d, from, beside(root_at(d, from), 1.0000000000001)),
-            high: high_of(d, to, beside(root_at(d, to), 0.9999999999999)),
-            under: under_of(d, from, beside(root_at(d, from), 0.9999999999999)),
+            low: square_from(d, from),
+            high: square_within(d, to),
+            under: square_below(d, from),
             over: square_above(d, to),
         }
     }
