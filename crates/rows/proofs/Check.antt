@@ -141,23 +141,21 @@ module _ (s : GridSearch) (l : Library) (h : Checked s l) where
       ∙ all-both (λ (r : Row). below (keyIn r)) pointIn (table l)
       ∙ ap₂ (λ (a b : Bool). a && b) (column below keyIn (l .keys) (table-keys l (omega arith))) points-in
 
-  pub row-tests : soundRows s (table l) ≡ (slotsOk count (l .keys) (l .ids) n && pointsOk (s .ndim) (l .xs) (l .ys) (l .zs) n)
+  pub row-tests : soundRows s (table l) ≡ (pointsOk (s .ndim) (l .xs) (l .ys) (l .zs) n && slotsOk count (l .keys) (l .ids) n)
   unfolding soundRows
   row-tests = ap₂ (λ (a b : Bool). a && b) good-rows (ap sorted (slots-table l)) ∙ around (all below (take n (l .keys))) _ _
     where
-      around : (a b c : Bool) → ((a && b) && c) ≡ ((a && c) && b)
-      around false b c = refl
-      around true false false = refl
-      around true false true = refl
-      around true true false = refl
-      around true true true = refl
+      around : (a b c : Bool) → ((a && b) && c) ≡ (b && (a && c))
+      around true b c = refl
+      around false false c = refl
+      around false true c = refl
 
   -- as the code has it
-  pub by-slots : {b : Bool} {m : ℕ} → m ≡ count → b ≡ slotsOk m (l .keys) (l .ids) n → b ≡ false → false ≡ soundRows s (table l)
-  by-slots m e f = sym (row-tests ∙ rw (← m, sym e ∙ f))
+  pub by-points : {b : Bool} → b ≡ pointsOk (s .ndim) (l .xs) (l .ys) (l .zs) n → b ≡ false → false ≡ soundRows s (table l)
+  by-points e f = sym (row-tests ∙ rw (sym e ∙ f))
 
-  pub by-points : {b c : Bool} {m : ℕ} → m ≡ count → b ≡ slotsOk m (l .keys) (l .ids) n → b ≡ true → c ≡ pointsOk (s .ndim) (l .xs) (l .ys) (l .zs) n → c ≡ soundRows s (table l)
-  by-points m e t p = p ∙ sym (row-tests ∙ rw (← m, sym e ∙ t))
+  pub by-slots : {b c : Bool} {m : ℕ} → b ≡ pointsOk (s .ndim) (l .xs) (l .ys) (l .zs) n → b ≡ true → m ≡ count → c ≡ slotsOk m (l .keys) (l .ids) n → c ≡ soundRows s (table l)
+  by-slots e t m p = p ∙ sym (row-tests ∙ rw (← m, sym e ∙ t))
 
 -- ---- a library that passes 13, part by part
 

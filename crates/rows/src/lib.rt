@@ -122,10 +122,11 @@ fn are_rows_good(
     ensures { λ r. ⌜ r ≡ soundRows sheet (table (library (now (keys .entry)) (now (ids .entry)) (now (xs .entry)) (now (ys .entry)) (now (zs .entry)) used)) ⌝ }
 {
     let ndim = sheet.ndim;
-    if !are_slots_good(keys, ids, used, grid::container_count(ndim, sheet.ndiv)) {
+    if !are_points_good(ndim, xs, ys, zs, used) {
         return false;
     }
-    are_points_good(ndim, xs, ys, zs, used)
+    // last, as keys are looked at again to find a container: few of them have left the cache by then
+    are_slots_good(keys, ids, used, grid::container_count(ndim, sheet.ndiv))
 }
 
 // What turns a library away: 24, 13, or 0.

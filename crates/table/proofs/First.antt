@@ -2,7 +2,7 @@
 -- Assumes nothing.
 use Prim.Native.Nat.{ℕ, zero, suc, _+_, _-_, _*_, _≤_, _<_, zero-le, suc-le-suc}
 use native.Mathlib.Omega.{arith}
-use native.Mathlib.Nat.{mul-le-mul-right, le-of-suc-le-suc, not-suc-le-zero, eq-or-lt-of-le}
+use native.Mathlib.Nat.{mul-pos, mul-le-mul-right, add-mul, one-mul, le-of-suc-le-suc, not-suc-le-zero, eq-or-lt-of-le}
 use native.Mathlib.Decide.{decLe}
 use mathlib.Core.Path.{_≡_, refl, sym, ap, _∙_, subst}
 use mathlib.Core.Logic.{_⊎_, inl, inr, ⊎-elim}
@@ -15,7 +15,7 @@ use borrow.Author.Tests.{ltb-true, ltb-false, le-ltb}
 use Rattle.basics.proofs.Bools.{by-test}
 use Rattle.basics.proofs.Lists.{map-tab, tab-take}
 use Rattle.table.specs.Rows.{Slot, slotted, slotAt, slotsOf, before, lower, lead}
-use Rattle.table.specs.Posts.{Rising, Ordered, OneBelow, Between}
+use Rattle.table.specs.Posts.{Rising, Ordered, OneBelow, Between, Parts, InPart}
 use Rattle.table.proofs.Order.{Lex, before-lex, sorted-at}
 
 -- ---- the keys of slots in strict order do not descend
@@ -105,19 +105,85 @@ pub below-most : (p at r : ℕ) → OneBelow p at r → r ≤ 1
 below-most p at r (inl x) = omega arith
 below-most p at r (inr x) = omega arith
 
-pub quarter : (p from n used q a b c : ℕ) → 4 * q ≤ n → 1 ≤ q → Between p from n used
-    → OneBelow p (from + q - 1) a → OneBelow p (from + 2 * q - 1) b → OneBelow p (from + 3 * q - 1) c → Between p (from + (a + b + c) * q) (n - 3 * q) used
-quarter p from n used q a b c h k w (inl x) (inl y) (inl z) = rw (x .0, y .0, z .0) (record { least = omega (arith, w .least); most = omega (arith, w .most); room = omega (arith, w .room) })
-quarter p from n used q a b c h k w (inl x) (inl y) (inr z) = rw (x .0, y .0, z .0) (record { least = omega (arith, w .least); most = omega (arith, w .most); room = omega (arith, w .room) })
-quarter p from n used q a b c h k w (inl x) (inr y) (inr z) = rw (x .0, y .0, z .0) (record { least = omega (arith, w .least); most = omega (arith, w .most); room = omega (arith, w .room) })
-quarter p from n used q a b c h k w (inr x) (inr y) (inr z) = rw (x .0, y .0, z .0) (record { least = omega (arith, w .least); most = omega (arith, w .most); room = omega (arith, w .room) })
-quarter p from n used q a b c h k w (inl x) (inr y) (inl z) = absurd (omega arith)
-quarter p from n used q a b c h k w (inr x) (inl y) z = absurd (omega arith)
-quarter p from n used q a b c h k w (inr x) (inr y) (inl z) = absurd (omega arith)
+-- the first i - 1 parts were looked at, and n of them stand before p's part, or before the next of them
+pub record Parting (p from q n i : ℕ) : Type 0 where
+  pub count : n < i
+  pub few : i ≤ 8
+  pub least : from + n * q ≤ p
+  pub within : n + 1 < i → p < from + n * q + q
 
--- how far a turn goes on at most
-pub three-most : (p i j k q a b c : ℕ) → OneBelow p i a → OneBelow p j b → OneBelow p k c → (a + b + c) * q ≤ 3 * q
-three-most p i j k q a b c x y z = mul-le-mul-right q (omega (arith, below-most p i a x, below-most p j b y, below-most p k c z))
+pub parting-start : (p from q used : ℕ) → Parts p from q used → Parting p from q 0 1
+parting-start p from q used w = record { count = omega arith; few = omega arith; least = omega (arith, w .least); within = λ h. absurd (omega arith) }
+
+-- each part ends in a row that is in use
+pub parting-room : (p from q used i : ℕ) → i < 8 → Parts p from q used → from + i * q ≤ used
+parting-room p from q used i h w = let k : i * q ≤ 7 * q = mul-le-mul-right q (omega arith) in omega (arith, w .room)
+
+pub part-some : (q i : ℕ) → 1 ≤ q → 1 ≤ i → 1 ≤ i * q
+part-some q i s h = mul-pos h s
+
+one-more : (n q : ℕ) → (n + 1) * q ≡ n * q + q
+one-more n q = add-mul n 1 q ∙ ap (λ (m : ℕ). n * q + m) (one-mul q)
+
+pub parting-turn : (p from q n i a : ℕ) → i < 8 → 1 ≤ q → Parting p from q n i → OneBelow p (from + i * q - 1) a → Parting p from q (n + a) (i + 1)
+parting-turn p from q n i a f s w (inl x) =
+    let e : n + 1 ≡ i = same (decLe i (n + 1)) in
+    let g : (n + 1) * q ≡ i * q = ap (λ (m : ℕ). m * q) e in
+    rw (x .0) (record { count = omega arith; few = omega arith; least = omega (arith, s); within = λ h. absurd (omega arith) })
+  where
+    same : Dec (i ≤ n + 1) → n + 1 ≡ i
+    same (yes g) = omega (arith, w .count)
+    same (no g) = let k : (n + 1) * q ≤ i * q = mul-le-mul-right q (omega arith) in absurd (omega (arith, one-more n q, w .within (omega arith)))
+parting-turn p from q n i a f s w (inr x) =
+    rw (x .0) (record { count = omega (arith, w .count); few = omega arith; least = least; within = λ h. come (decLe i (n + 1)) })
+  where
+    same : n + 0 ≡ n
+    same = omega arith
+
+    least : from + (n + 0) * q ≤ p
+    least = subst (λ (m : ℕ). from + m * q ≤ p) (sym same) (w .least)
+
+    close : Dec (i ≤ n + 1) → p < from + n * q + q
+    close (yes g) = let e : (n + 1) * q ≡ i * q = ap (λ (m : ℕ). m * q) (last g) in omega (arith, one-more n q, s)
+      where
+        last : i ≤ n + 1 → n + 1 ≡ i
+        last g = omega (arith, w .count)
+    close (no g) = w .within (omega arith)
+
+    come : Dec (i ≤ n + 1) → p < from + (n + 0) * q + q
+    come d = subst (λ (m : ℕ). p < from + m * q + q) (sym same) (close d)
+
+pub parting-end : (p from q n i : ℕ) → 8 ≤ i → Parting p from q n i → InPart p from q (from + n * q)
+parting-end p from q n i h w = record { least = w .least; most = let k : n * q ≤ 7 * q = mul-le-mul-right q (omega (arith, w .count, w .few)) in omega arith; within = λ g. w .within (short g (decLe 7 n)) }
+  where
+    short : from + n * q < from + 7 * q → Dec (7 ≤ n) → n + 1 < i
+    short g (yes k) = let l : 7 * q ≤ n * q = mul-le-mul-right q k in absurd (omega arith)
+    short g (no k) = omega arith
+
+pub parts : (p from n used q : ℕ) → 8 * q ≤ n → 1 ≤ q → Between p from n used → Parts p from q used
+parts p from n used q h k w = record { least = w .least; some = k; room = omega (arith, w .room) }
+
+pub part-left : (p from n used q r : ℕ) → 8 * q ≤ n → Between p from n used → InPart p from q r → Between p r (n - 7 * q) used
+part-left p from n used q r h w v = record { least = v .least; most = go (decLe (from + 7 * q) r); room = omega (arith, w .room, v .most) }
+  where
+    go : Dec (from + 7 * q ≤ r) → p ≤ r + (n - 7 * q)
+    go (yes g) = omega (arith, w .most, v .most)
+    go (no g) = omega (arith, v .within (omega arith))
+
+-- the last few, as parts of one row
+pub last-parts : (p from n used start : ℕ) → n ≤ 7 → start + 7 ≤ used → start ≤ from → Between p from n used → Parts p start 1 used
+last-parts p from n used start h k l w = record { least = omega (arith, w .least); some = omega arith; room = omega arith }
+
+pub last-part : (p from n used start r : ℕ) → n ≤ 7 → (start ≡ from) ⊎ (start + 7 ≡ used) → Between p from n used → InPart p start 1 r → r ≡ p
+last-part p from n used start r h k w v = go (decLe (start + 7 * 1) r)
+  where
+    reach : (start ≡ from) ⊎ (start + 7 ≡ used) → p ≤ start + 7
+    reach (inl e) = omega (arith, w .most)
+    reach (inr e) = omega (arith, w .most, w .room)
+
+    go : Dec (start + 7 * 1 ≤ r) → r ≡ p
+    go (yes g) = omega (arith, v .least, v .most, reach k)
+    go (no g) = omega (arith, v .least, v .within (omega arith))
 
 -- the last few, one by one: `from` has come to p, or goes along with i
 pub record Along (p from i end used : ℕ) : Type 0 where

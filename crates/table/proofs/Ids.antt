@@ -4,7 +4,8 @@ use Prim.Native.Nat.{ℕ, _+_, _≤_}
 use native.Mathlib.Omega.{arith}
 use mathlib.Core.Path.{_≡_, refl, sym, ap, ap₂, _∙_, subst}
 use mathlib.Core.Bool.{Bool, true, false, not, _&&_, _||_, cond, and-false}
-use mathlib.Core.List.{List, [], _∷_, map}
+use mathlib.Core.Logic.{⊎-elim}
+use mathlib.Core.List.{List, [], _∷_, map, List·Memᴰ, List·Memᴰ·not-nil, List·Memᴰ·cases-cons}
 use mathlib.Core.Option.{Option, none, some}
 use lib.Dec.{eqb}
 use lib.ListN.{length}
@@ -47,6 +48,19 @@ empty p = refl
 
 none-some : {r : Row} {o : Option Row} → o ≡ none → o ≡ some r → ⊥
 none-some e f = let z : _≡_ {A = ℕ} 0 1 = cc in omega arith
+
+-- a row in strict order is the only one of its slot
+pub rowFor-among : (r : Row) (rows : List Row) → sorted (map slotOf rows) ≡ true → List·Memᴰ r rows → rowFor (slotOf r) rows ≡ some r
+unfolding sorted rowFor
+rowFor-among r [] o m = absurd (List·Memᴰ·not-nil m)
+rowFor-among r (s ∷ rest) o m =
+    ⊎-elim (λ (e : r ≡ s). rw e (here s rest))
+    (λ (k : List·Memᴰ r rest).
+    let found = rowFor-among r rest (chain-sorted (slotOf s) (map slotOf rest) o) k in
+    by-test (same (slotOf s) (slotOf r))
+    (λ g. absurd (none-some (subst (λ (p : Slot). rowFor p rest ≡ none) (same-eq (slotOf s) (slotOf r) g) (chain-none (slotOf s) rest o)) found))
+    (λ g. rw g found))
+    (List·Memᴰ·cases-cons m)
 
 -- the rest has the same rows by slot, where the first row is the same
 rest-same : (r : Row) (rs ss : List Row) → chain (slotOf r) (map slotOf rs) ≡ true → chain (slotOf r) (map slotOf ss) ≡ true

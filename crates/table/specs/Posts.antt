@@ -1,5 +1,5 @@
 -- What the functions over the rows ask and ensure. Definitions only.
-use Prim.Native.Nat.{ℕ, zero, suc, _+_, _^_, _≤_, _<_}
+use Prim.Native.Nat.{ℕ, zero, suc, _+_, _*_, _^_, _≤_, _<_}
 use mathlib.Core.Path.{_≡_}
 use mathlib.Core.Logic.{_⊎_}
 use mathlib.Core.Bool.{Bool, true, false}
@@ -47,6 +47,18 @@ pub record Between (p from n used : ℕ) : Type 0 where
   pub least : from ≤ p
   pub most : p ≤ from + n
   pub room : from + n ≤ used
+
+-- place p stands from `from` on, where eight parts of q places begin, the last of which has no end
+pub record Parts (p from q used : ℕ) : Type 0 where
+  pub least : from ≤ p
+  pub some : 1 ≤ q
+  pub room : from + 7 * q ≤ used
+
+-- it stands in the part that begins at r
+pub record InPart (p from q r : ℕ) : Type 0 where
+  pub least : r ≤ p
+  pub most : r ≤ from + 7 * q
+  pub within : r < from + 7 * q → p < r + q
 
 -- n is the number of rows once a mark of this id is in each of the containers, whatever the rows of these slots hold and wherever the mark stands
 abbrev pub CountAfter : List Slot → ℕ → List ℕ → ℕ → Type 0
