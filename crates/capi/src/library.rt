@@ -76,8 +76,8 @@ pub extern "C" fn gemlab_grid_search_strike(
     }
 }
 
-// Tells whether a mark is near a position: found is 1 and id the lowest near one, or found is 0 and id stays. Returns 0, or
-// the first of 24, 13, 2, 3, 11 and 17 that applies, and then writes nothing.
+// Tells whether a mark is near a position: found is 1 and id the nearest one, the lowest among equally near ones, or found
+// is 0 and id stays. Returns 0, or the first of 24, 13, 2, 3, 11 and 17 that applies, and then writes nothing.
 #[no_mangle]
 pub extern "C" fn gemlab_grid_search_search(
     numbers: &[u64],

@@ -8,12 +8,12 @@ use mathlib.Core.Option.{Option, none, some}
 use mathlib.Core.List.{List, [], _∷_, map}
 use lib.ListN.{replicate}
 use lib.IntN.{pos, negsuc}
-use lib.Ieee.{Float, nan, inf, fin}
+use lib.Ieee.{Float, nan, inf, fin, lt}
 use Rattle.basics.specs.Refusals.{Answer, refused, success}
 use Rattle.floats.specs.Rounded.{zeroF, pow2, pow2⁻}
 use Rattle.floats.specs.Sqrt.{sqrtOf}
 use Rattle.geometry.specs.Position.{positionOf}
-use Rattle.geometry.specs.Distances.{pointCircleAnswer}
+use Rattle.geometry.specs.Distances.{pointSquare, pointPoint, pointCircleAnswer}
 use Rattle.geometry.specs.declared.Zeta.{Zeta}
 use Rattle.geometry.specs.Cells.{zetas, triangleCoords, inside}
 use Rattle.grid.specs.Divisions.{counts}
@@ -69,7 +69,10 @@ keysOf l = numbers (map keyIn (table l))
 abbrev pub half : Float
 half = fin false 1 (negsuc 0)
 
--- 2.5, 3.5, 5.5
+-- 1.5, 2.5, 3.5, 5.5
+abbrev pub oneAndHalf : Float
+oneAndHalf = fin false 3 (negsuc 0)
+
 abbrev pub twoAndHalf : Float
 twoAndHalf = fin false 5 (negsuc 0)
 
@@ -86,6 +89,20 @@ above8 = fin false 4503599627370497 (negsuc 48)
 -- 3 - 9 / 4096
 abbrev pub belowThree : Float
 belowThree = fin false 12279 (negsuc 11)
+
+-- the binary64 of 2.5001: a tenth of a millimetre beside 2.5
+abbrev pub tenthBeside : Float
+tenthBeside = fin false 5629724714194489 (negsuc 50)
+
+-- 2.5 - 2 ^ -10, 2.5 + 2 ^ -10 and 1.5 + 2 ^ -36
+abbrev pub belowTwoAndHalf : Float
+belowTwoAndHalf = fin false 2559 (negsuc 9)
+
+abbrev pub aboveTwoAndHalf : Float
+aboveTwoAndHalf = fin false 2561 (negsuc 9)
+
+abbrev pub aboveOneAndHalf : Float
+aboveOneAndHalf = fin false 103079215105 (negsuc 35)
 
 -- ---- on sheet S: corners (0, 0) and (8, 4), divisions 8, border 0, tolerance 1/512
 
@@ -137,6 +154,40 @@ unfoldable pub find : Library → Float → Float → Stated
 unfolding ofSearch searchAnswer S
 find l x y = ofSearch (searchAnswer S l (x ∷ y ∷ []))
 
+-- a mark more
+unfoldable pub with : ℕ → Float → Float → Library → Library
+unfolding insertion S
+with i x y l = insertion S l i (x ∷ y ∷ []) .library
+
+-- 7 at (2.5, 1.5), and 8 a tenth of a millimetre beside it
+unfoldable pub anchors : ℕ → Library
+unfolding with room
+anchors n = with 8 tenthBeside oneAndHalf (with 7 twoAndHalf oneAndHalf (room n))
+
+-- one mark to the right of (2.5, 1.5), and then another as far to the left
+unfoldable pub sides : ℕ → ℕ → Library
+unfolding with room
+sides i j = with j belowTwoAndHalf oneAndHalf (with i aboveTwoAndHalf oneAndHalf (room 4))
+
+-- 3 at (2.5 + 2 ^ -10, 1.5 + 2 ^ -36), and 5 at (2.5 + 2 ^ -10, 1.5): their squares from (2.5, 1.5) are 2 ^ -20 + 2 ^ -72 and 2 ^ -20
+unfoldable pub equalRoots : ℕ → Library
+unfolding with room
+equalRoots n = with 5 aboveTwoAndHalf oneAndHalf (with 3 aboveTwoAndHalf aboveOneAndHalf (room n))
+
+-- 6, 2 and 9 at (2.5, 1.5)
+unfoldable pub stacked : ℕ → Library
+unfolding with room
+stacked n = with 9 twoAndHalf oneAndHalf (with 2 twoAndHalf oneAndHalf (with 6 twoAndHalf oneAndHalf (room n)))
+
+-- from (2.5, 1.5): the square of the distance, and the distance
+unfoldable pub squareTo : Float → Float → Float
+unfolding pointSquare
+squareTo x y = pointSquare (x ∷ y ∷ []) (twoAndHalf ∷ oneAndHalf ∷ [])
+
+unfoldable pub distanceTo : Float → Float → Float
+unfolding pointPoint
+distanceTo x y = pointPoint (x ∷ y ∷ []) (twoAndHalf ∷ oneAndHalf ∷ [])
+
 -- the triangle (0, 0), (4, 0), (0, 4)
 unfoldable pub inTriangle : Float → Float → Zeta
 unfolding triangleCoords
@@ -154,6 +205,7 @@ line g s = record { given = g; stated = s }
 
 unfoldable pub lines : List Line
 unfolding line sqrtOf containerOf S find seven moved eight sixThree retire sevenGone closed holding withTolerance pointCircleAnswer ofDistance ofChange keysOf inTriangle inside
+    anchors sides equalRoots stacked squareTo distanceTo lt
 lines =
     -- S has divisions 8 and 4, and side 1
     line (numbers (counts 2 (S .ndiv))) (numbers (8 ∷ 4 ∷ []))
@@ -205,6 +257,19 @@ lines =
     ∷ line (floats (closed 6 .library .ys)) (floats (half ∷ replicate 5 zeroF))
     ∷ line (floats (closed 6 .library .zs)) (floats (replicate 6 zeroF))
     ∷ line (number (closed 6 .library .used)) (number 1)
+    -- Document 02, request b: with the pole on 8's place 8 is found, although 7 is near, and on 7's place 7
+    ∷ line (find (anchors 4) tenthBeside oneAndHalf) (number 8)
+    ∷ line (find (anchors 4) twoAndHalf oneAndHalf) (number 7)
+    -- equally near on both sides: the lower id, whether it was inserted last and stands to the left or first and to the right
+    ∷ line (find (sides 9 4) twoAndHalf oneAndHalf) (number 4)
+    ∷ line (find (sides 4 9) twoAndHalf oneAndHalf) (number 4)
+    -- 3 has the larger square and the roots are equal: the lower id, 3, where a choice by squares would name 5
+    ∷ line (test (lt (squareTo aboveTwoAndHalf oneAndHalf) (squareTo aboveTwoAndHalf aboveOneAndHalf))) (test true)
+    ∷ line (floats (distanceTo aboveTwoAndHalf aboveOneAndHalf ∷ distanceTo aboveTwoAndHalf oneAndHalf ∷ [])) (floats (pow2⁻ 10 ∷ pow2⁻ 10 ∷ []))
+    ∷ line (find (equalRoots 4) twoAndHalf oneAndHalf) (number 3)
+    -- one position under several ids: the lowest, on it and beside it
+    ∷ line (find (stacked 4) twoAndHalf oneAndHalf) (number 2)
+    ∷ line (find (stacked 4) aboveTwoAndHalf oneAndHalf) (number 2)
     ∷ []
 
 -- each line gives what it states

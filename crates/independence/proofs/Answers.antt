@@ -1,26 +1,30 @@
 -- Near and listed beside the answers of `search` and of a listing.
-use Prim.Native.Nat.{ℕ, _≤_, min}
-use native.Mathlib.Nat.{min-eq-left, min-eq-right, le-of-lt}
+use Prim.Native.Nat.{ℕ, _≤_}
 use native.Mathlib.Omega.{arith}
-use mathlib.Core.Path.{_≡_, refl, sym, _∙_, ap, subst}
+use mathlib.Core.Path.{_≡_, refl, sym, _∙_, ap}
 use mathlib.Core.Bool.{Bool, true, false, _&&_, and-false}
-use mathlib.Core.Logic.{_⊎_, inl, inr, ⊎-elim}
-use mathlib.Core.Option.{Option, none, some, Option·some-ne-none}
-use mathlib.Core.List.{List, [], _∷_, _++_}
-use lib.Dec.{ltb, leb, eqb}
+use mathlib.Core.Logic.{⊎-elim}
+use mathlib.Core.Option.{Option, none, some, Option·elim, Option·some-ne-none}
+use mathlib.Core.List.{List, [], _∷_, _++_, List·Memᴰ, List·Memᴰ·head, List·Memᴰ·tail, List·Memᴰ·not-nil, List·Memᴰ·cases-cons}
+use lib.Dec.{ltb, eqb}
 use lib.ListN.{length}
-use lib.Ieee.{Float}
-use borrow.Author.Tests.{eqb-true, eq-eqb, leb-true, leb-false, le-ltb}
-use Rattle.basics.proofs.Bools.{by-test, clash, both, and-both, or-either, or-true}
+use lib.Ieee.{Float, le, eq}
+use borrow.Author.Tests.{eqb-true, eq-eqb, le-ltb}
+use Rattle.basics.proofs.Bools.{clash, both, and-both, or-either, or-true}
 use Rattle.basics.specs.Lists.{all, has}
 use Rattle.basics.specs.Refusals.{Test, refuse, fault, refused, success, answer}
 use Rattle.basics.proofs.Refusals.{fault-left, fault-right}
+use Rattle.floats.proofs.Order.{eq-le}
 use Rattle.grid_search.specs.declared.GridSearch.{GridSearch}
 use Rattle.table.specs.declared.Row.{Row}
-use Rattle.table.specs.Rows.{idIn}
+use Rattle.table.specs.Rows.{slotted, idIn, rowFor}
 use Rattle.table.specs.Library.{Library, table}
+use Rattle.table.proofs.Ids.{rowFor-among}
 use Rattle.rows.specs.Damage.{libraryTests}
-use Rattle.search.specs.Search.{nearRows, lowest, chosen, searchTests, searchAnswer}
+use Rattle.rows.specs.Insert.{containerOf, positionTests}
+use Rattle.rows.proofs.Check.{whole}
+use Rattle.search.specs.Search.{nearRows, away, chosen, searchTests, searchAnswer}
+use Rattle.search.proofs.Choice.{Leads, Choice, near-row, chosen-row, chosen-none}
 use Rattle.listing.specs.declared.Filter.{Filter}
 use Rattle.sorting.specs.Ascent.{ascending}
 use Rattle.listing.specs.Place.{Asked, isOn, placeTests}
@@ -28,67 +32,35 @@ use Rattle.listing.specs.Listing.{idsOn, onTests, listingTests, listing}
 use Rattle.basics.specs.Filled.{Filled, fill}
 use Rattle.basics.proofs.Filled.{fill-success, fill-refused}
 use Rattle.independence.specs.Run.{isNone}
-use Rattle.independence.specs.Queries.{pass, near, on}
+use Rattle.independence.specs.Queries.{pass, near, distance, on}
 use Rattle.independence.specs.Claims.{Finding, Writing}
 use Rattle.table.proofs.Libraries.{length-table}
 use Rattle.independence.proofs.Ids.{holds, ids-ascend, ids-no-more}
 use Rattle.independence.proofs.Replies.{value-of, refusal-of}
 use Rattle.independence.proofs.Damage.{clean, says, came-later}
 
--- ---- the lowest id
+-- ---- the rows of an id
 
--- of no rows there is none; else it is one of theirs, and none of theirs is lower
-Lowest : List Row → Option ℕ → Type 0
-Lowest rows none = (i : ℕ) → holds i rows ≡ false
-Lowest rows (some j) = (holds j rows ≡ true) × ((i : ℕ) → holds i rows ≡ true → j ≤ i)
-
-first-of : (r : Row) (rows : List Row) → lowest rows ≡ none → lowest (r ∷ rows) ≡ some (idIn r)
-unfolding lowest
-first-of r rows e = rw e
-
-least-of : (r : Row) (rows : List Row) (j : ℕ) → lowest rows ≡ some j → lowest (r ∷ rows) ≡ some (min (idIn r) j)
-unfolding lowest
-least-of r rows j e = rw e
-
-held-in : (i : ℕ) (r : Row) (rows : List Row) → holds i (r ∷ rows) ≡ true → (idIn r ≡ i) ⊎ (holds i rows ≡ true)
+-- where rows hold an id, one of them is its own
+held-row : (i : ℕ) (rows : List Row) → holds i rows ≡ true → (r : Row) × List·Memᴰ r rows × (idIn r ≡ i)
 unfolding has
-held-in i r rows h = go (or-either (eqb (idIn r) i) (holds i rows) h)
-  where
-    go : (eqb (idIn r) i ≡ true) ⊎ (holds i rows ≡ true) → (idIn r ≡ i) ⊎ (holds i rows ≡ true)
-    go (inl e) = inl (eqb-true (idIn r) i e)
-    go (inr e) = inr e
+held-row i [] h = clash h refl
+held-row i (r ∷ rows) h =
+    ⊎-elim (λ (e : eqb (idIn r) i ≡ true). (r, List·Memᴰ·head refl, eqb-true (idIn r) i e))
+    (λ (k : holds i rows ≡ true). let d = held-row i rows k in (d .0, List·Memᴰ·tail (d .1), d .2))
+    (or-either (eqb (idIn r) i) (holds i rows) h)
 
-held-first : (r : Row) (rows : List Row) → holds (idIn r) (r ∷ rows) ≡ true
+-- the other way round
+row-held : (r : Row) (rows : List Row) → List·Memᴰ r rows → {i : ℕ} → idIn r ≡ i → holds i rows ≡ true
 unfolding has
-held-first r rows = rw (eq-eqb (idIn r) (idIn r) refl)
-
-held-rest : (i : ℕ) (r : Row) (rows : List Row) → holds i rows ≡ true → holds i (r ∷ rows) ≡ true
-unfolding has
-held-rest i r rows h = or-true (eqb (idIn r) i) h
-
-one-row : (r : Row) (rows : List Row) → ((i : ℕ) → holds i rows ≡ false) → (holds (idIn r) (r ∷ rows) ≡ true) × ((i : ℕ) → holds i (r ∷ rows) ≡ true → idIn r ≤ i)
-one-row r rows d = (held-first r rows, λ i h. ⊎-elim (λ (e : idIn r ≡ i). omega arith) (λ (e : holds i rows ≡ true). clash e (d i)) (held-in i r rows h))
-
-lower-row : (r : Row) (rows : List Row) (j : ℕ) → holds j rows ≡ true → ((i : ℕ) → holds i rows ≡ true → j ≤ i)
-    → (holds (min (idIn r) j) (r ∷ rows) ≡ true) × ((i : ℕ) → holds i (r ∷ rows) ≡ true → min (idIn r) j ≤ i)
-lower-row r rows j h d = (
-  by-test (leb (idIn r) j) (λ e. rw (min-eq-left (leb-true (idIn r) j e)) (held-first r rows)) (λ e. rw (min-eq-right (le-of-lt (leb-false (idIn r) j e))) (held-rest j r rows h)),
-  λ i k. ⊎-elim (λ (e : idIn r ≡ i). omega arith) (λ (e : holds i rows ≡ true). omega (arith, d i e)) (held-in i r rows k),
-)
-
-lowest-is : (rows : List Row) → Lowest rows (lowest rows)
-unfolding Lowest lowest has
-lowest-is [] = λ i. refl
-lowest-is (r ∷ rows) = go (lowest rows) refl (lowest-is rows)
-  where
-    go : (o : Option ℕ) → lowest rows ≡ o → Lowest rows o → Lowest (r ∷ rows) (lowest (r ∷ rows))
-    go none e d = subst (Lowest (r ∷ rows)) (sym (first-of r rows e)) (one-row r rows d)
-    go (some j) e d = subst (Lowest (r ∷ rows)) (sym (least-of r rows j e)) (lower-row r rows j (d .0) (d .1))
+row-held r [] m e = absurd (List·Memᴰ·not-nil m)
+row-held r (t ∷ rows) m {i} e =
+    ⊎-elim (λ (g : r ≡ t). rw (eq-eqb (idIn t) i (ap idIn (sym g) ∙ e))) (λ (k : List·Memᴰ r rows). or-true (eqb (idIn t) i) (row-held r rows k e)) (List·Memᴰ·cases-cons m)
 
 -- ---- search
 
-search-is : (s : GridSearch) (l : Library) (x : List Float) → searchAnswer s l x ≡ answer (fault (searchTests s l x)) (lowest (nearRows s x (table l)))
-unfolding searchAnswer chosen
+search-is : (s : GridSearch) (l : Library) (x : List Float) → searchAnswer s l x ≡ answer (fault (searchTests s l x)) (chosen s x (nearRows s x (table l)))
+unfolding searchAnswer
 search-is s l x = refl
 
 near-is : (s : GridSearch) (l : Library) (x : List Float) (i : ℕ) → near s l x i ≡ (pass (searchTests s l x) && holds i (nearRows s x (table l)))
@@ -96,29 +68,68 @@ unfolding near
 near-is s l x i = refl
 
 module _ (s : GridSearch) (l : Library) (x : List Float) where
-  valued : {o : Option ℕ} → searchAnswer s l x ≡ success o → (pass (searchTests s l x) ≡ true) × (lowest (nearRows s x (table l)) ≡ o)
-  unfolding pass isNone
-  valued e = let d = value-of (fault (searchTests s l x)) (lowest (nearRows s x (table l))) (sym (search-is s l x) ∙ e) in (ap isNone (d .0), d .1)
+  abbrev rows : List Row
+  rows = nearRows s x (table l)
 
-  judged : {o : Option ℕ} → searchAnswer s l x ≡ success o → Lowest (nearRows s x (table l)) o
-  judged e = subst (Lowest (nearRows s x (table l))) (valued e .1) (lowest-is (nearRows s x (table l)))
+  valued : {o : Option ℕ} → searchAnswer s l x ≡ success o → (fault (searchTests s l x) ≡ none) × (chosen s x rows ≡ o)
+  valued e = value-of (fault (searchTests s l x)) (chosen s x rows) (sym (search-is s l x) ∙ e)
 
   turned : {n : ℕ} → searchAnswer s l x ≡ refused n → pass (searchTests s l x) ≡ false
   unfolding pass isNone
-  turned e = ap isNone (refusal-of (fault (searchTests s l x)) (lowest (nearRows s x (table l))) (sym (search-is s l x) ∙ e))
+  turned e = ap isNone (refusal-of (fault (searchTests s l x)) (chosen s x rows) (sym (search-is s l x) ∙ e))
 
-  held : (i : ℕ) → near s l x i ≡ true → holds i (nearRows s x (table l)) ≡ true
-  held i h = and-both (pass (searchTests s l x)) (holds i (nearRows s x (table l))) (sym (near-is s l x i) ∙ h) .1
+  -- where no test fails, the rows are in strict order: a near row is the only one of its id in the container
+  only-row : fault (searchTests s l x) ≡ none → (r : Row) → List·Memᴰ r rows → {i : ℕ} → idIn r ≡ i → rowFor (slotted (containerOf s x) i) (table l) ≡ some r
+  unfolding searchTests
+  only-row v r m e =
+      let n = near-row s x (table l) r m in
+      let order = whole s l (fault-left (libraryTests s l) (positionTests s x (x ∷ [])) v) .order in
+      rw (sym e, sym (n .there)) (rowFor-among r (table l) order (n .among))
+
+  -- so that its distance is that of the id
+  measured : fault (searchTests s l x) ≡ none → (r : Row) → List·Memᴰ r rows → {i : ℕ} → idIn r ≡ i → distance s l x i ≡ away s x r
+  unfolding distance Option·elim
+  measured v r m e = rw (only-row v r m e)
+
+  -- the id found is that of the row chosen, and an id that is near that of a near row
+  module _ (j : ℕ) (e : searchAnswer s l x ≡ success (some j)) where
+    picked : (r : Row) × Choice s x rows r × (idIn r ≡ j)
+    picked = chosen-row s x (table l) j (valued e .1)
+
+    found-near : near s l x j ≡ true
+    unfolding pass isNone
+    found-near = near-is s l x j ∙ both (ap isNone (valued e .0)) (row-held (picked .0) rows (picked .1 .among) (picked .2))
+
+    module _ (i : ℕ) (h : near s l x i ≡ true) where
+      other : (r : Row) × List·Memᴰ r rows × (idIn r ≡ i)
+      other = held-row i rows (and-both (pass (searchTests s l x)) (holds i rows) (sym (near-is s l x i) ∙ h) .1)
+
+      leading : Leads s x (picked .0) (other .0)
+      leading = picked .1 .leads (other .0) (other .1)
+
+      of-found : distance s l x j ≡ away s x (picked .0)
+      of-found = measured (valued e .0) (picked .0) (picked .1 .among) (picked .2)
+
+      of-other : distance s l x i ≡ away s x (other .0)
+      of-other = measured (valued e .0) (other .0) (other .1) (other .2)
+
+      no-nearer : le (distance s l x j) (distance s l x i) ≡ true
+      no-nearer = rw (of-found, of-other) (leading .not-farther)
+
+      no-lower : eq (distance s l x i) (distance s l x j) ≡ true → j ≤ i
+      no-lower q = rw (sym (picked .2), sym (other .2)) (leading .not-higher (eq-le (away s x (other .0)) (away s x (picked .0)) (rw (of-other, of-found) at q)))
 
   pub finding : Finding s l x
-  unfolding Lowest
+  unfolding has
   finding = record {
-    is-near = λ j e. near-is s l x j ∙ both (valued e .0) (judged e .0);
-    is-lowest = λ j e i h. judged e .1 i (held i h);
-    nothing-near = λ e i. near-is s l x i ∙ ap (λ (b : Bool). pass (searchTests s l x) && b) (judged e i) ∙ and-false (pass (searchTests s l x));
-    refused-near = λ n e i.
+    is-near = found-near;
+    is-nearest = no-nearer;
+    is-lowest = no-lower;
+    nothing-near = λ e i.
         near-is s l x i
-        ∙ ap (λ (b : Bool). b && holds i (nearRows s x (table l))) (turned e);
+        ∙ ap (λ (rs : List Row). pass (searchTests s l x) && holds i rs) (chosen-none s x (table l) (valued e .1))
+        ∙ and-false (pass (searchTests s l x));
+    refused-near = λ n e i. near-is s l x i ∙ ap (λ (b : Bool). b && holds i rows) (turned e);
   }
 
 -- ---- listing

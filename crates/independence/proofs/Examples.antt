@@ -1,4 +1,4 @@
--- Runs on document 01's sheet S, evaluated: ids 6, 7 and 8, refused calls, strikings, and the history of 7 alone in another library.
+-- Runs on document 01's sheet S, evaluated: ids 6, 7 and 8, refused calls, strikings, the history of 7 alone in another library, and the distances of a mark that moved.
 use Prim.Native.Nat.{ℕ}
 use mathlib.Core.Path.{_≡_, refl}
 use mathlib.Core.Bool.{Bool, true, false}
@@ -20,7 +20,7 @@ use Rattle.listing.specs.declared.Filter.the-variants.{Everything}
 use Rattle.listing.specs.Place.{Asked, line}
 use Rattle.independence.specs.Run.{Change, insert, strike, Call, change, search, list, counted, found, listed, run, replies}
 use Rattle.independence.specs.Histories.{history}
-use Rattle.independence.specs.Queries.{near, on}
+use Rattle.independence.specs.Queries.{near, distance, on}
 use Rattle.independence.specs.Claims.{replay}
 
 -- corners (0,0) and (8,4), divisions 8, border 0, tolerance 1/512
@@ -82,7 +82,7 @@ l′ : Library
 unfolding empty
 l′ = empty 10 900 nan
 
--- 15 where there are rows and not before; 11 for the position outside; Nothing 1.125 tolerances away; then 6 is the lowest near (2,1); 14 for the short list
+-- 15 where there are rows and not before; 11 for the position outside; Nothing 1.125 tolerances away; then 6, the lower of two equally near (2,1); 14 for the short list
 all-replies : replies S l calls
     ≡ listed (record { answer = success 0; list = [] })
     ∷ counted (success 4)
@@ -187,3 +187,32 @@ gone = refl
 gone-alone : asked (run S l′ (replay 7 S l retired)) ≡ false ∷ false ∷ false ∷ false ∷ []
 unfolding asked run history S l l′ retired add sub mul div ofInt toUnsigned within before same
 gone-alone = refl
+
+-- ---- a mark that moved: 7 at (2 - 2^-11, 1.5), beside the next container, then at (2 - 3 * 2^-10, 1.5); 8 at (2 - 3 * 2^-11, 1.5 + 5 * 2^-12)
+
+-- (2 - 3 * 2^-11, 1.5)
+pole : List Float
+pole = fin false 4093 (negsuc 10) ∷ fin false 3 (negsuc 0) ∷ []
+
+strayed : List Call
+unfolding pole
+strayed =
+    change (insert 7 (fin false 4095 (negsuc 10) ∷ fin false 3 (negsuc 0) ∷ []))
+    ∷ change (insert 7 (fin false 2045 (negsuc 9) ∷ fin false 3 (negsuc 0) ∷ []))
+    ∷ change (insert 8 (fin false 4093 (negsuc 10) ∷ fin false 6149 (negsuc 11) ∷ []))
+    ∷ search pole
+    ∷ []
+
+-- 8 is found: the row that 7 left in the next container is nearer, and does not count
+strayed-replies : replies S l strayed ≡ counted (success 2) ∷ counted (success 2) ∷ counted (success 4) ∷ found (success (some 8)) ∷ []
+unfolding replies S l strayed add sub mul div ofInt toUnsigned within before same
+strayed-replies = refl
+
+-- 7 is near too, and farther than 8 by the row that counts
+strayed-near : near S (run S l strayed) pole 7 ≡ true
+unfolding near run S l strayed pole add sub mul div ofInt toUnsigned within before same
+strayed-near = refl
+
+strayed-distances : map (distance S (run S l strayed) pole) (7 ∷ 8 ∷ []) ≡ fin false 3 (negsuc 10) ∷ fin false 5 (negsuc 11) ∷ []
+unfolding distance run S l strayed pole add sub mul div ofInt toUnsigned within before same
+strayed-distances = refl

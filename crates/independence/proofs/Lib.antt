@@ -1,4 +1,4 @@
--- The proof of demand 3. `Theorems` has a proof of each claim of specs/Claims.antt; `Independent` is its heart; `Examples` evaluates two runs.
+-- The proof of demand 3. `Theorems` has a proof of each claim of specs/Claims.antt; `Independent` is its heart; `Examples` evaluates three runs.
 pub mod Ids
 pub mod Changes
 pub mod Replies

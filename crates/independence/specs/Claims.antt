@@ -8,7 +8,7 @@ use mathlib.Core.Option.{Option, none, some}
 use mathlib.Core.List.{List, [], _∷_, _++_, map}
 use lib.Dec.{eqb}
 use lib.ListN.{length}
-use lib.Ieee.{Float}
+use lib.Ieee.{Float, le, eq}
 use Rattle.basics.specs.Lists.{all, has, over}
 use Rattle.basics.specs.Refusals.{fault, refused, success}
 use Rattle.geometry.specs.declared.Position.{Position}
@@ -26,7 +26,7 @@ use Rattle.listing.specs.Place.{Asked}
 use Rattle.listing.specs.Listing.{idsOn, listing}
 use Rattle.independence.specs.Run.{insert, strike, Call, change, Reply, counted, step, refusal, accepted, run, replies}
 use Rattle.independence.specs.Histories.{history, others, built, placed}
-use Rattle.independence.specs.Queries.{near, on}
+use Rattle.independence.specs.Queries.{near, distance, on}
 
 -- "Empty means used count 0, rows of any content": the lists hold anything.
 pub record Empty (l : Library) : Type 0 where
@@ -125,9 +125,10 @@ Answers = (s : GridSearch) (l : Library) → Empty l → (before : List Call) (c
 -- ---- 6. What near and listed are to the answers of `search` and of a listing
 
 pub record Finding (s : GridSearch) (l : Library) (x : List Float) : Type 0 where
-  -- the id found is near, and no near id is lower
+  -- the id found is near; no near id is computed nearer, and none at the same computed distance is lower
   pub is-near : (j : ℕ) → searchAnswer s l x ≡ success (some j) → near s l x j ≡ true
-  pub is-lowest : (j : ℕ) → searchAnswer s l x ≡ success (some j) → (i : ℕ) → near s l x i ≡ true → j ≤ i
+  pub is-nearest : (j : ℕ) → searchAnswer s l x ≡ success (some j) → (i : ℕ) → near s l x i ≡ true → le (distance s l x j) (distance s l x i) ≡ true
+  pub is-lowest : (j : ℕ) → searchAnswer s l x ≡ success (some j) → (i : ℕ) → near s l x i ≡ true → eq (distance s l x i) (distance s l x j) ≡ true → j ≤ i
   -- Nothing, and a refusal, mean that no id is near
   pub nothing-near : searchAnswer s l x ≡ success none → (i : ℕ) → near s l x i ≡ false
   pub refused-near : (n : ℕ) → searchAnswer s l x ≡ refused n → (i : ℕ) → near s l x i ≡ false

@@ -1,3 +1,5 @@
--- Laws of a search: the first near row has the lowest id, the walk over a container's rows, and each answer.
-pub mod Near
+-- Laws of a search: the order of the choice, the walk over a container's rows that finds the nearest, and each answer.
+pub mod Order
+pub mod Walk
 pub mod Answers
+pub mod Choice

@@ -1,2 +1,3 @@
 -- The words of the contract of module 7.
 pub mod Search
+pub mod Posts

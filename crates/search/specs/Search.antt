@@ -1,11 +1,11 @@
 -- Module 7: the near rows, and apart from them the choice among them.
 -- Assumes nothing.
-use Prim.Native.Nat.{ℕ, min}
-use mathlib.Core.Bool.{Bool, _&&_}
-use mathlib.Core.Option.{Option, none, some}
+use Prim.Native.Nat.{ℕ}
+use mathlib.Core.Bool.{Bool, _&&_, _||_, cond}
+use mathlib.Core.Option.{Option, none, some, Option·elim}
 use mathlib.Core.List.{List, [], _∷_, _++_}
-use lib.Dec.{eqb}
-use lib.Ieee.{Float, le}
+use lib.Dec.{eqb, ltb}
+use lib.Ieee.{Float, lt, le, eq}
 use Rattle.basics.specs.Lists.{keep}
 use Rattle.basics.specs.Refusals.{Test, fault, Answer, refused, success, answer}
 use Rattle.geometry.specs.Position.{coords}
@@ -28,21 +28,32 @@ unfoldable pub nearRows : GridSearch → List Float → List Row → List Row
 unfolding keep isNear
 nearRows s x rows = keep (isNear s x) rows
 
--- the lower of an id and another, if there is another
-unfoldable pub lowerOf : ℕ → Option ℕ → Option ℕ
-lowerOf i none = some i
-lowerOf i (some j) = some (min i j)
+-- the computed distance of a row's mark from a position, rounded as the Rust rounds it
+unfoldable pub away : GridSearch → List Float → Row → Float
+unfolding pointPoint
+away s x r = pointPoint (coords (s .ndim) (r .at)) x
 
--- the lowest id
-unfoldable pub lowest : List Row → Option ℕ
-unfolding lowerOf
-lowest [] = none
-lowest (r ∷ rows) = lowerOf (idIn r) (lowest rows)
+-- r is chosen before t: its computed distance is less, or the two are equal and its id is lower
+unfoldable pub chosenBefore : GridSearch → List Float → Row → Row → Bool
+unfolding away lt eq
+chosenBefore s x r t = lt (away s x r) (away s x t) || (eq (away s x r) (away s x t) && ltb (idIn r) (idIn t))
 
--- the choice among the rows near a position: the lowest id
+-- of a row and another, if there is another, the one that is chosen
+unfoldable pub nearerOf : GridSearch → List Float → Row → Option Row → Option Row
+unfolding chosenBefore
+nearerOf s x r none = some r
+nearerOf s x r (some t) = some (cond (chosenBefore s x r t) r t)
+
+-- the row that is chosen before all others
+unfoldable pub nearest : GridSearch → List Float → List Row → Option Row
+unfolding nearerOf
+nearest s x [] = none
+nearest s x (r ∷ rows) = nearerOf s x r (nearest s x rows)
+
+-- the choice among the rows near a position: the id with the least computed distance, and the lowest id among equal distances
 unfoldable pub chosen : GridSearch → List Float → List Row → Option ℕ
-unfolding lowest
-chosen s x rows = lowest rows
+unfolding nearest Option·elim
+chosen s x rows = Option·elim (nearest s x rows) none (λ (r : Row). some (idIn r))
 
 -- 24, 13, 2, 3, 11, 17
 unfoldable pub searchTests : GridSearch → Library → List Float → List Test
