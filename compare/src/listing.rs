@@ -3,6 +3,7 @@
 //! library against those of libraries that have one mark each.
 
 use crate::c::gemlab_grid_search_list;
+use crate::choice::chosen;
 use crate::near::{around, down, up};
 use crate::random::Random;
 use crate::rows::{Lent, Settings, Source, World, LIMIT, MOST_ROWS};
@@ -578,21 +579,22 @@ fn independence(t: &mut Tally) {
         for _ in 0..20 {
             let w = &story.world;
             let x = s.position(w);
-            let (number, found, lowest) = w.lent.search(&x);
-            // the marks that are near by themselves
-            let mut by_itself = BTreeSet::new();
+            let (number, found, id) = w.lent.search(&x);
+            let answer = (number == 0 && found == 1).then_some(id);
+            // the marks that are near by themselves, with their distances there
+            let mut by_itself = Vec::new();
             for (id, lent) in &alone {
                 let (n, f, i) = lent.search(&x);
                 t.equal(n, number, || format!("search at {x:?} with {id} alone"));
                 if n == 0 && f == 1 {
                     t.equal(i, *id, || format!("search at {x:?} with {id} alone"));
-                    by_itself.insert(*id);
+                    let key = w.rust.key_of(&x).map(|key| key as u64);
+                    let row = (0..lent.used as usize).find(|row| Some(lent.keys[*row]) == key);
+                    by_itself.extend(row.map(|row| (*id, lent.away(row, &x))));
                 }
             }
-            let expected = by_itself.first().copied();
-            let answer = (number == 0 && found == 1).then_some(lowest);
             near += by_itself.len();
-            t.equal(answer, expected, || format!("search at {x:?} in {:?}", w.lent));
+            t.equal(answer, chosen(&by_itself), || format!("search at {x:?} in {:?}", w.lent));
 
             let asked = p.asked(w);
             let all = list(&w.lent, &asked, space);

@@ -9,12 +9,14 @@
 mod c;
 mod cell_search;
 mod cells;
+mod choice;
 mod field;
 mod floats;
 mod geometry;
 mod listing;
 mod meshes;
 mod near;
+mod nearest;
 mod random;
 mod rows;
 mod sheet;
@@ -32,6 +34,7 @@ const PARTS: &[(&str, fn(&mut Tally))] = &[
     ("rows", rows::compare),
     ("listing", listing::compare),
     ("strike", strike::compare),
+    ("nearest", nearest::compare),
     ("cells", cells::compare),
     ("field", field::compare),
 ];
@@ -43,6 +46,7 @@ const BENCHES: &[(&str, fn())] = &[
     ("bench-rows", rows::measure),
     ("bench-listing", listing::measure),
     ("bench-strike", strike::measure),
+    ("bench-nearest", nearest::measure),
     ("bench-cells", cells::measure),
 ];
 

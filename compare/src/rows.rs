@@ -2,12 +2,13 @@
 //! every shape, damaged libraries for each clause of 13, and everything lent compared before and after each call.
 
 use crate::c::{gemlab_grid_search_insert, gemlab_grid_search_new, gemlab_grid_search_search};
+use crate::choice::chosen;
 use crate::near::{around, same, special, up};
 use crate::random::Random;
 use crate::tally::Tally;
 use gemlab::geometry::point_point_distance;
 use gemlab::util::{GridSearch, SheetFields};
-use std::collections::{BTreeMap, BTreeSet};
+use std::collections::BTreeMap;
 use std::hint::black_box;
 use std::time::Instant;
 
@@ -19,9 +20,10 @@ const CALLS_IN_A_RUN: usize = 400;
 pub(crate) const LIMIT: f64 = 1048576.0;
 pub(crate) const MOST_ROWS: usize = 65536;
 
-/// What a search's results hold before a call.
+/// What a search's results hold before a call, and what stands beside them.
 const FOUND: u64 = 0x1234_5678_9abc_def0;
 const ID: u64 = 0x0fed_cba9_8765_4321;
+const BESIDE: u64 = 0x5555_aaaa_5555_aaaa;
 
 /// What is lent: a sheet's two lists, the five lists of a library and its used count.
 #[derive(Clone, Debug)]
@@ -34,6 +36,11 @@ pub(crate) struct Lent {
     pub(crate) ys: Vec<f64>,
     pub(crate) zs: Vec<f64>,
     pub(crate) used: u64,
+}
+
+/// A search's results with what stands beside them.
+fn results(found: u64, id: u64) -> [u64; 5] {
+    [BESIDE, found, BESIDE, id, BESIDE]
 }
 
 fn all_same(a: &[f64], b: &[f64]) -> bool {
@@ -69,7 +76,14 @@ impl Lent {
 
     /// The number, and what the two results hold after the call.
     pub(crate) fn search(&self, x: &[f64]) -> (u64, u64, u64) {
-        let (mut found, mut id) = (FOUND, ID);
+        let (number, [_, found, _, id, _]) = self.search_between(x);
+        (number, found, id)
+    }
+
+    /// The same with what stands before, between and behind the results, which has to stay.
+    fn search_between(&self, x: &[f64]) -> (u64, [u64; 5]) {
+        let mut results = results(FOUND, ID);
+        let [_, found, _, id, _] = &mut results;
         // SAFETY: as above.
         let number = unsafe {
             gemlab_grid_search_search(
@@ -90,11 +104,11 @@ impl Lent {
                 self.used,
                 x.as_ptr(),
                 x.len(),
-                &mut found,
-                &mut id,
+                found,
+                id,
             )
         };
-        (number, found, id)
+        (number, results)
     }
 
     /// Every list and the count, bit for bit.
@@ -184,6 +198,12 @@ impl Lent {
                     && (ndim == 3 || same(self.zs[i], 0.0))
             });
         (!sound).then_some(13)
+    }
+
+    /// The distance of a row's mark from a position, by gemlab.
+    pub(crate) fn away(&self, row: usize, x: &[f64]) -> f64 {
+        let at = [self.xs[row], self.ys[row], self.zs[row]];
+        point_point_distance(&at[..x.len()], x).unwrap()
     }
 
     /// gemlab's library of the sheet and the rows in use, where these have no fault.
@@ -465,29 +485,43 @@ impl World {
             && all_same(&l.floats, &b.floats)
     }
 
+    /// The rows of the container that a position falls into: id and coordinates, ascending by id; none outside the sheet.
+    pub(crate) fn container(&self, x: &[f64]) -> impl Iterator<Item = (u64, &[f64])> {
+        let keys = self.rust.key_of(x).map(|key| (key as u64, 0)..=(key as u64, u64::MAX));
+        let rows = keys.into_iter().flat_map(|keys| self.rows.range(keys));
+        rows.map(|((_, id), at)| (*id, &at[..self.ndim()]))
+    }
+
+    /// The ids near a position with their distances, by gemlab's own function: those that its search can give.
+    pub(crate) fn near(&self, x: &[f64]) -> Vec<(u64, f64)> {
+        self.container(x)
+            .map(|(id, at)| (id, point_point_distance(at, x).unwrap()))
+            .filter(|(_, away)| *away <= self.fields.tol_dist)
+            .collect()
+    }
+
     /// The id found, where the call is not refused.
     pub(crate) fn search(&mut self, x: &[f64], t: &mut Tally) -> Option<u64> {
-        let (number, found, id) = self.lent.search(x);
+        let (number, told) = self.lent.search_between(x);
         if let Some(expected) = self.position_fault(x, &[x.to_vec()]) {
             t.number("search", number, expected, || format!("at {x:?} in {:?}", self.lent));
-            t.equal((found, id), (FOUND, ID), || format!("search at {x:?} in {:?}", self.lent));
+            t.equal(told, results(FOUND, ID), || format!("search at {x:?} in {:?}", self.lent));
             return None;
         }
-        let key = self.rust.key_of(x).unwrap() as u64;
-        let near: BTreeSet<u64> = self
-            .rows
-            .range((key, 0)..=(key, u64::MAX))
-            .filter(|(_, at)| point_point_distance(&at[..x.len()], x).unwrap() <= self.fields.tol_dist)
-            .map(|((_, id), _)| *id)
-            .collect();
-        let expected = near.first().map_or((0, ID), |lowest| (1, *lowest));
+        let near = self.near(x);
+        let expected = chosen(&near).map_or(results(0, ID), |id| results(1, id));
         t.number("search", number, 0, || format!("at {x:?} in {:?}", self.lent));
-        t.equal((found, id), expected, || format!("search at {x:?} in {:?}", self.lent));
-        // gemlab answers any of them
+        t.equal(told, expected, || format!("search at {x:?}, near are {near:?} in {:?}", self.lent));
+        let [_, found, _, id, _] = told;
+        let ours = (number == 0 && found == 1).then_some(id);
+        // gemlab answers any of those that are near, and ours is one of them
+        let can_give = |id: Option<u64>| id.map_or(near.is_empty(), |id| near.iter().any(|(near, _)| *near == id));
         let theirs = self.rust.search(x);
-        let among = theirs.is_ok_and(|id| id.map_or(near.is_empty(), |id| near.contains(&(id as u64))));
-        t.check(among, || format!("search at {x:?}: gemlab has {theirs:?}, near are {near:?}"));
-        (number == 0 && found == 1).then_some(id)
+        let among = theirs.is_ok_and(|id| can_give(id.map(|id| id as u64)));
+        t.check(among && can_give(ours), || {
+            format!("search at {x:?}: {ours:?} here, gemlab has {theirs:?}, near are {near:?}")
+        });
+        ours
     }
 
     /// gemlab's containers hold the same rows.
@@ -699,7 +733,7 @@ fn large(t: &mut Tally) {
 
 impl World {
     /// An insertion that is only looked at by its number.
-    fn fill(&mut self, id: u64, x: &[f64], t: &mut Tally) {
+    pub(crate) fn fill(&mut self, id: u64, x: &[f64], t: &mut Tally) {
         t.equal(self.lent.insert(id, x), 0, || format!("insert {id} at {x:?}"));
         for p in self.points(x) {
             let key = self.rust.key_of(&p).unwrap() as u64;

@@ -121,16 +121,16 @@ fn rows_of(rust: &GridSearch) -> BTreeMap<(u64, u64), [f64; 3]> {
 }
 
 /// A library beside gemlab's, and the insertions that gemlab's was given: those accepted since each id's last striking, in order.
-struct Story {
+pub(crate) struct Story {
     settings: Settings,
-    w: World,
+    pub(crate) w: World,
     given: Vec<(u64, Vec<f64>)>,
     /// the last id that was struck
     last: u64,
 }
 
 impl Story {
-    fn new(settings: Settings, w: World) -> Self {
+    pub(crate) fn new(settings: Settings, w: World) -> Self {
         Story { settings, w, given: Vec::new(), last: 0 }
     }
 
@@ -144,7 +144,7 @@ impl Story {
     }
 
     /// The number that is due.
-    fn insert(&mut self, id: u64, x: &[f64], t: &mut Tally) -> u64 {
+    pub(crate) fn insert(&mut self, id: u64, x: &[f64], t: &mut Tally) -> u64 {
         let number = self.w.insert(id, x, t);
         if number == 0 {
             self.given.push((id, x.to_vec()));
@@ -154,7 +154,7 @@ impl Story {
     }
 
     /// The number that is due.
-    fn strike(&mut self, id: u64, t: &mut Tally) -> u64 {
+    pub(crate) fn strike(&mut self, id: u64, t: &mut Tally) -> u64 {
         let w = &mut self.w;
         w.before.copy_from(&w.lent);
         let (number, removed) = w.lent.strike_before(id, t);

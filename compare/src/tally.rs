@@ -13,19 +13,23 @@ pub struct Tally {
     compared: u64,
     differ: u64,
     met: Vec<(&'static str, [u64; NUMBERS])>,
+    kinds: Vec<(&'static str, u64)>,
 }
 
 impl Tally {
     pub fn new(name: &str) -> Self {
-        Tally { name: name.to_string(), compared: 0, differ: 0, met: Vec::new() }
+        Tally { name: name.to_string(), compared: 0, differ: 0, met: Vec::new(), kinds: Vec::new() }
     }
 
-    /// One comparison: `what` is only asked where the two differ.
+    /// One comparison: `what` is only asked where the two differ and it is shown.
     #[inline]
     pub fn check(&mut self, agrees: bool, what: impl FnOnce() -> String) {
         self.compared += 1;
         if !agrees {
-            self.differs(what());
+            self.differ += 1;
+            if self.differ <= SHOWN {
+                println!("compare {}: {}", self.name, what());
+            }
         }
     }
 
@@ -65,12 +69,10 @@ impl Tally {
         self.equal(met.as_slice(), due, || format!("the numbers met by {call}"));
     }
 
-    #[cold]
-    fn differs(&mut self, what: String) {
-        self.differ += 1;
-        if self.differ <= SHOWN {
-            println!("compare {}: {what}", self.name);
-        }
+    /// At the end: a kind of input occurred so often, which has to be enough.
+    pub fn occurs(&mut self, kind: &'static str, count: u64, enough: u64) {
+        self.kinds.push((kind, count));
+        self.check(count >= enough, || format!("{kind}: {count}, and {enough} are due"));
     }
 
     /// Says how it went; true where something was compared and nothing differs.
@@ -79,6 +81,10 @@ impl Tally {
             let met: Vec<String> =
                 counts.iter().enumerate().filter(|(_, k)| **k > 0).map(|(n, k)| format!("{n} ({k})")).collect();
             println!("compare {}: {call} gave {}", self.name, met.join(", "));
+        }
+        if !self.kinds.is_empty() {
+            let kinds: Vec<String> = self.kinds.iter().map(|(kind, count)| format!("{kind} ({count})")).collect();
+            println!("compare {}: met {}", self.name, kinds.join(", "));
         }
         println!("compare {}: {} results compared, {} differ", self.name, self.compared, self.differ);
         self.compared > 0 && self.differ == 0

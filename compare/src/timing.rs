@@ -52,3 +52,28 @@ pub fn best_of(n: usize, f: impl Fn(usize) -> f64) -> f64 {
     }
     best
 }
+
+/// So many calls of f, from its k-th on.
+pub fn burst(f: impl Fn(usize) -> u64) -> impl Fn(usize, usize) -> u64 {
+    move |k, calls| (k..k + calls).fold(0, |sum, k| sum ^ black_box(f(k)))
+}
+
+/// Nanoseconds for a call of each of several functions: the best of many short bursts, which take turns, so that the work of others on
+/// the same machine falls on all alike and leaves some bursts of each alone.
+pub fn in_turn<const N: usize>(bursts: [&dyn Fn(usize, usize) -> u64; N]) -> [f64; N] {
+    const ROUNDS: usize = 10_000;
+    const NANOSECONDS: f64 = 20_000.0;
+    let time = |i: usize, k: usize, calls: usize| {
+        let start = Instant::now();
+        black_box(bursts[i](k, calls));
+        start.elapsed().as_nanos() as f64 / calls as f64
+    };
+    let calls: [usize; N] = std::array::from_fn(|i| (NANOSECONDS / time(i, 0, 100)).clamp(8.0, 1000.0) as usize);
+    let mut best = [f64::INFINITY; N];
+    for round in 0..ROUNDS {
+        for i in 0..N {
+            best[i] = best[i].min(time(i, round * calls[i], calls[i]));
+        }
+    }
+    best
+}

@@ -2,10 +2,12 @@
 //! which gemlab has not: what it answers after one is that of a library that was given the other ids' insertions alone.
 //!
 //! The inputs are made by a generator with a fixed seed, so that the file is the same in every run. What gemlab takes
-//! from a hash map in any order is stored as the set of what it may give, and what it gives is checked to be in it.
+//! from a hash map in any order is stored as the set of what it may give, and what it gives is checked to be in it; of near
+//! ids the one that request b of document 02 picks comes first.
 //! Every input is within the limits of document 01, and breaks at most one rule: only refusals that gemlab has are here,
 //! and 26, for an id that has no row.
 
+use crate::choice::{chosen, square};
 use crate::random::Random;
 use crate::words::{three, Words};
 use gemlab::geometry::*;
@@ -28,6 +30,10 @@ const MARKS: usize = 24;
 const SEARCHES: usize = 30;
 const LISTINGS: usize = 8;
 const STRIKINGS: usize = 4;
+
+/// Libraries of pairs, and pairs in each.
+const PAIRED: usize = 6;
+const PAIRS: usize = 24;
 
 /// Distances of each kind in each dimension.
 const DISTANCES: usize = 100;
@@ -193,14 +199,15 @@ fn astray(r: &mut Random, grid: &GridSearch) -> Vec<f64> {
     x
 }
 
-/// The ids that a search may give.
-fn near_ids(grid: &GridSearch, x: &[f64]) -> Vec<usize> {
+/// The ids near a position with their distances: those that a search may give.
+fn near(grid: &GridSearch, x: &[f64]) -> Vec<(u64, f64)> {
     let key = grid.key_of(x).unwrap();
     let tol_dist = grid.fields().tol_dist;
     grid.rows()
         .iter()
-        .filter(|row| row.key == key && point_point_distance(&row.x, x).unwrap() <= tol_dist)
-        .map(|row| row.id)
+        .filter(|row| row.key == key)
+        .map(|row| (row.id as u64, point_point_distance(&row.x, x).unwrap()))
+        .filter(|(_, away)| *away <= tol_dist)
         .collect()
 }
 
@@ -225,15 +232,27 @@ fn store_strike(w: &mut Words, library: &mut Library, id: usize) {
     }
 }
 
+/// The ids that a search may give: the one that request b picks, and then the others, ascending.
 fn store_search(w: &mut Words, grid: &GridSearch, x: &[f64]) {
     w.entry(SEARCH);
     w.position(x);
     if let Some(found) = w.answer(grid.search(x)) {
-        let ids = near_ids(grid, x);
-        assert_eq!(found.is_some(), !ids.is_empty());
-        assert!(found.is_none_or(|id| ids.contains(&id)));
+        let near = near(grid, x);
+        let found = found.map(|id| id as u64);
+        assert_eq!(found.is_some(), !near.is_empty());
+        assert!(found.is_none_or(|found| near.iter().any(|(id, _)| *id == found)));
+        let picked = chosen(&near);
+        let mut ids: Vec<u64> = near.iter().map(|(id, _)| *id).collect();
+        ids.sort_by_key(|id| (Some(*id) != picked, *id));
         w.count(ids.len());
-        ids.iter().for_each(|id| w.count(*id));
+        ids.iter().for_each(|id| w.word(*id));
+
+        let least = near.iter().map(|(_, away)| *away).fold(f64::INFINITY, f64::min);
+        let nearest = near.iter().filter(|(_, away)| *away == least).count();
+        w.meets("several near ids", ids.len() > 1);
+        w.meets("equal least distances", nearest > 1);
+        w.meets("equal least distances and one that is not", nearest > 1 && nearest < ids.len());
+        w.meets("the nearest is not the lowest", !ids.is_sorted());
     }
 }
 
@@ -437,10 +456,86 @@ fn store_library(w: &mut Words, r: &mut Random, ndim: usize) -> (Library, Vec<Ve
     (library, marks)
 }
 
+/// Two marks that are hard to tell apart from a pole, or from a position beside it.
+fn pair(r: &mut Random, kind: usize, pole: &[f64]) -> [Vec<f64>; 2] {
+    let ndim = pole.len();
+    let axis = r.below(ndim as u64) as usize;
+    let other = (axis + 1) % ndim;
+    // multiples of 2^-30, so that both sides of the pole are exact
+    let off: Vec<f64> = (0..ndim).map(|_| (r.below(100_000) as f64 - 5e4) / 1073741824.0).collect();
+    let (mut a, mut b) = (vec![0.0; ndim], vec![0.0; ndim]);
+    match kind {
+        // a tenth of a millimetre apart
+        0 => b[axis] = 1e-4,
+        // mirrored on an axis, or on a diagonal
+        1 => {
+            (a, b) = (off.clone(), off);
+            b[axis] = -b[axis];
+        }
+        2 => {
+            (a, b) = (off.clone(), off);
+            b.swap(axis, other);
+        }
+        // squares of 2^-28 and one unit more, whose roots are both 2^-14
+        3 => {
+            (a[axis], b[axis]) = (1.0 / 16384.0, -1.0 / 16384.0);
+            b[other] = 1.0 / 1099511627776.0;
+        }
+        // at one position, or one unit beside it
+        _ => (a, b) = (off.clone(), off),
+    }
+    let [a, mut b] = [a, b].map(|off| pole.iter().zip(off).map(|(x, d)| x + d).collect::<Vec<f64>>());
+    if kind == 5 {
+        b[axis] = b[axis].next_up();
+    }
+    [a, b]
+}
+
+/// A library of pairs, each in a container of its own, and searches at their poles, at them and between them; then one of some pairs is
+/// struck off.
+fn store_pairs(w: &mut Words, r: &mut Random, ndim: usize) {
+    let (low, high) = (vec![0.0; ndim], vec![8.0; ndim]);
+    let settings = Settings { low, high, ndiv: Some(8), tolerance: None, border: Some(0.0) };
+    let grid = settings.store(w).unwrap();
+    let mut library = Library { settings, grid, given: Vec::new() };
+    let mut pairs = Vec::new();
+    for i in 0..PAIRS {
+        let container = [i % 8, i / 8, i % 5];
+        let pole: Vec<f64> = (0..ndim).map(|k| container[k] as f64 + 0.25 + r.below(512) as f64 / 1024.0).collect();
+        let mut marks = pair(r, i % 6, &pole);
+        if r.below(2) == 0 {
+            marks.reverse();
+        }
+        let id = 1 + 2 * i;
+        let ids = *r.pick(&[[id, id + 1], [id + 1, id], [id, usize::MAX - id], [usize::MAX - id, id]]);
+        for (id, x) in ids.iter().zip(&marks) {
+            store_insert(w, &mut library, *id, x);
+        }
+        let away = marks.each_ref().map(|x| point_point_distance(x, &pole).unwrap());
+        let squares = marks.each_ref().map(|x| square(x, &pole));
+        let larger = if ids[0] < ids[1] { squares[0] > squares[1] } else { squares[1] > squares[0] };
+        w.meets("equal distances, the lower id with the larger square", away[0] == away[1] && larger);
+        pairs.push((pole, marks, ids));
+    }
+    store_table(w, &library.grid);
+    for (pole, [a, b], ids) in &pairs {
+        let part = |of: f64| a.iter().zip(b).map(|(a, b)| a + (b - a) * of).collect::<Vec<f64>>();
+        for x in [pole, a, b, &part(0.5), &part(0.25), &part(0.75)] {
+            store_search(w, &library.grid, x);
+        }
+        if r.below(3) == 0 {
+            store_strike(w, &mut library, *r.pick(ids));
+            store_search(w, &library.grid, pole);
+        }
+    }
+    store_table(w, &library.grid);
+}
+
 pub fn libraries() -> Words {
     let mut w = Words::default();
     let mut r = Random::new(11);
     let mut s = Random::new(12);
+    let mut p = Random::new(13);
     refused_sheets(&mut w);
     for i in 0..LIBRARIES {
         let (mut library, marks) = store_library(&mut w, &mut r, 2 + i % 2);
@@ -449,8 +544,20 @@ pub fn libraries() -> Words {
             store_clearance(&mut w, &mut s, &mut library, &marks);
         }
     }
+    for i in 0..PAIRED {
+        store_pairs(&mut w, &mut p, 2 + i % 2);
+    }
     store_distances(&mut w, &mut r);
     w.word(0);
+    for (kind, enough) in [
+        ("several near ids", 1000),
+        ("equal least distances", 400),
+        ("equal least distances and one that is not", 40),
+        ("the nearest is not the lowest", 300),
+        ("equal distances, the lower id with the larger square", 8),
+    ] {
+        assert!(w.met[kind] >= enough, "{kind}: {} in the sample", w.met[kind]);
+    }
     w
 }
 

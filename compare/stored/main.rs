@@ -5,6 +5,8 @@
 //! `stored check` says whether each file is what gemlab gives today; `stored write` writes them.
 
 mod catalogue;
+#[path = "../src/choice.rs"]
+mod choice;
 mod libraries;
 mod meshes;
 mod numbers;

@@ -2,12 +2,14 @@
 
 use crate::numbers::number;
 use gemlab::StrError;
+use std::collections::BTreeMap;
 
-/// The bytes of a file, and how many entries of each kind it has.
+/// The bytes of a file, how many entries of each kind it has, and how often answers are of a kind that matters.
 #[derive(Default)]
 pub struct Words {
     pub bytes: Vec<u8>,
     pub entries: [u64; 32],
+    pub met: BTreeMap<&'static str, u64>,
 }
 
 impl Words {
@@ -15,6 +17,10 @@ impl Words {
     pub fn entry(&mut self, kind: u64) {
         self.entries[kind as usize] += 1;
         self.word(kind);
+    }
+
+    pub fn meets(&mut self, kind: &'static str, is: bool) {
+        *self.met.entry(kind).or_default() += is as u64;
     }
 
     pub fn word(&mut self, n: u64) {

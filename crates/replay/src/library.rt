@@ -179,8 +179,10 @@ fn search(
     if count == 0 {
         return number == 0 && found == 0;
     }
-    let possible = compared::among(fd, id, count);
-    number == 0 && found == 1 && possible
+    // the first is the one to name; gemlab may give the others too
+    let chosen = compared::word(fd);
+    let another = compared::among(fd, id, count - 1);
+    number == 0 && found == 1 && id == chosen && !another
 }
 
 fn listing(
