@@ -159,6 +159,15 @@ static void libraries(void)
     find(5.5, 2.5);
     put(6, 4, 2, 8);
     find(4.5, 0.5);
+    /* two seal anchors 0.1 mm apart, and then on both sides of the pole */
+    used = 0;
+    put(4, 5.5, 1.5, 8);
+    put(9, 5.5001, 1.5, 8);
+    find(5.5, 1.5);
+    find(5.5001, 1.5);
+    put(9, 5.5 - 1.0 / 1024, 1.5, 8);
+    put(4, 5.5 + 1.0 / 1024, 1.5, 8);
+    find(5.5, 1.5);
     used = 0;
     put(8, 3 - 9.0 / 4096, 0.5, 8);
     find(3, 0.5);

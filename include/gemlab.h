@@ -71,7 +71,7 @@
  * A mark is found at a position that is nearer than the tolerance on each axis by more than
  * rounding, as long as the side of a container is more than twice the tolerance by more than
  * rounding too. Further off and up to tol_dist, it is missed where the edge of a container lies
- * between.
+ * between. Of the marks that are not missed, the nearest is found.
  */
 #ifndef GEMLAB_H
 #define GEMLAB_H
@@ -287,8 +287,11 @@ uint64_t gemlab_grid_search_strike(const uint64_t *numbers, size_t numbers_len,
                                    uint64_t *removed);
 
 /*
- * The mark at x: of the rows in x's container whose distance from x is at most tol_dist, the lowest
- * id. *found becomes 1 and *id that number, or *found becomes 0 and *id stays.
+ * The mark at x: of the rows in x's container whose distance from x is at most tol_dist, the id
+ * with the least distance, and the lowest id among equal ones. A distance is what
+ * gemlab_point_point_distance gives, a rounded root: two marks can be equally near though the
+ * squares differ. *found becomes 1 and *id that number, or *found becomes 0 and *id stays. gemlab
+ * itself may name any of the near ids.
  * Refusals: 24, 13, 2, 3, 11, 17.
  */
 uint64_t gemlab_grid_search_search(const uint64_t *numbers, size_t numbers_len,

@@ -142,7 +142,9 @@ impl Library {
         Refusal::judge(number).map(|()| removed)
     }
 
-    /// The lowest id of a mark that is near `x`, within the sheet's `tol_dist`, in the container of `x`.
+    /// The mark at `x`: of those in the container of `x` that are near it, within the sheet's `tol_dist`, the id with the
+    /// least distance as [`point_point_distance`](crate::point_point_distance) computes it, and the lowest id among equal
+    /// ones.
     ///
     /// Refusals: 24, 13, 2, 3, 11, 17.
     pub fn search(&self, sheet: &Sheet, x: &[f64]) -> Result<Option<u64>, Refusal> {

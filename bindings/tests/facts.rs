@@ -104,6 +104,33 @@ fn the_rows_of_other_marks_close_up() {
 }
 
 #[test]
+fn the_nearer_mark_is_found() {
+    for ndim in [2, 3] {
+        let sheet = Sheet::new(&vec![0.0; ndim], &vec![8.0; ndim], Some(8), None, Some(0.0)).unwrap();
+        let at = |x: f64, y: f64| [vec![x, y], vec![0.5; ndim - 2]].concat();
+        let found = |marks: [(u64, [f64; 2]); 2], pole: [f64; 2]| {
+            let mut library = Library::with_marks(&sheet, 2);
+            for (id, [x, y]) in marks {
+                library.insert(&sheet, id, &at(x, y)).unwrap();
+            }
+            library.search(&sheet, &at(pole[0], pole[1])).unwrap()
+        };
+        // two seal anchors 0.1 mm apart
+        let anchors = [(4, [3.5, 2.5]), (9, [3.5001, 2.5])];
+        assert_eq!(found(anchors, [3.5, 2.5]), Some(4));
+        assert_eq!(found(anchors, [3.5001, 2.5]), Some(9));
+        // equally near: on both sides, and where one square is a unit larger and the roots are equal
+        let (off, unit) = (1.0 / 16384.0, 1.0 / 1099511627776.0);
+        let square: f64 = off * off + unit * unit;
+        assert!(square > off * off && square.sqrt() == off);
+        let (left, right, above) = ([3.5 - off, 2.5], [3.5 + off, 2.5], [3.5 + off, 2.5 + unit]);
+        for (a, b) in [(left, right), (right, left), (right, above), (above, right)] {
+            assert_eq!(found([(4, a), (9, b)], [3.5, 2.5]), Some(4));
+        }
+    }
+}
+
+#[test]
 fn a_cell_takes_up_to_four_or_eight_rows() {
     // two cells of one size, the second across the edges of containers on every axis
     for (ndim, most) in [(2, 4), (3, 8)] {
