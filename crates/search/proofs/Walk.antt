@@ -4,7 +4,7 @@ use Prim.Native.Nat.{ℕ, zero, suc, _+_, _≤_, _<_, zero-le, suc-le-suc}
 use native.Mathlib.Nat.{le-of-suc-le-suc}
 use native.Mathlib.Numerals.{add-one}
 use native.Mathlib.Omega.{arith}
-use mathlib.Core.Path.{_≡_, refl, sym, ap, _∙_, subst}
+use mathlib.Core.Path.{_≡_, refl, sym, ap, ap₂, _∙_, subst}
 use mathlib.Core.Logic.{⊎-elim}
 use mathlib.Core.Bool.{Bool, true, false, cond}
 use mathlib.Core.Option.{Option, none, some, Option·elim}
@@ -31,7 +31,7 @@ use Rattle.table.proofs.First.{rising, first-most, below-first, from-first}
 use Rattle.table.proofs.Libraries.{ordered}
 use Rattle.rows.specs.Insert.{containerOf}
 use Rattle.search.specs.declared.Nearest.{Nearest}
-use Rattle.search.specs.Search.{isNear, nearRows, away, nearerOf, nearest, chosen}
+use Rattle.search.specs.Search.{isNear, nearRows, away, chosenBefore, nearerOf, nearest, chosen}
 use Rattle.search.specs.Posts.{Beyond, takesPlace, nearerBy, idOf}
 use Rattle.search.proofs.Order.{nearer-chosen, stays-chosen, no-nearer}
 
@@ -174,24 +174,30 @@ module _ (s : GridSearch) (l : Library) (o : InOrder l) (key : ℕ) (x : List Fl
       abbrev here : Row
       here = rowAt l i
 
+      abbrev tol : Float
+      tol = s .«tol_dist»
+
+      abbrev off : Float
+      off = away s x here
+
       abbrev tail : List Row
       tail = keep (isNear s x) (drop (i + 1) (table l))
 
-      from-here : keep (isNear s x) (drop i (table l)) ≡ cond (le (away s x here) (s .«tol_dist»)) (here ∷ tail) tail
+      from-here : keep (isNear s x) (drop i (table l)) ≡ cond (le off tol) (here ∷ tail) tail
       unfolding table rowsOf
       from-here = keep-step (isNear s x) (l .used) (rowAt l) i k ∙ ap (λ (b : Bool). cond b (here ∷ tail) tail) (in-container here f)
 
-      near-here : le (away s x here) (s .«tol_dist») ≡ true → keep (isNear s x) (drop i (table l)) ≡ here ∷ tail
+      near-here : le off tol ≡ true → keep (isNear s x) (drop i (table l)) ≡ here ∷ tail
       near-here h = from-here ∙ ap (λ (b : Bool). cond b (here ∷ tail) tail) h
 
-      far-here : le (away s x here) (s .«tol_dist») ≡ false → keep (isNear s x) (drop i (table l)) ≡ tail
+      far-here : le off tol ≡ false → keep (isNear s x) (drop i (table l)) ≡ tail
       far-here h = from-here ∙ ap (λ (b : Bool). cond b (here ∷ tail) tail) h
 
-      rest-near : le (away s x here) (s .«tol_dist») ≡ true → nearest s x (nearRows s x (table l)) ≡ with s l key x (w .row) (nearerOf s x here (nearest s x tail))
+      rest-near : le off tol ≡ true → nearest s x (nearRows s x (table l)) ≡ with s l key x (w .row) (nearerOf s x here (nearest s x tail))
       unfolding nearest
       rest-near h = w .rest ∙ ap (λ (rows : List Row). with s l key x (w .row) (nearest s x rows)) (near-here h)
 
-      rest-far : le (away s x here) (s .«tol_dist») ≡ false → nearest s x (nearRows s x (table l)) ≡ with s l key x (w .row) (nearest s x tail)
+      rest-far : le off tol ≡ false → nearest s x (nearRows s x (table l)) ≡ with s l key x (w .row) (nearest s x tail)
       rest-far h = w .rest ∙ ap (λ (rows : List Row). with s l key x (w .row) (nearest s x rows)) (far-here h)
 
       -- an earlier row of the container has a lower id
@@ -204,16 +210,16 @@ module _ (s : GridSearch) (l : Library) (o : InOrder l) (key : ℕ) (x : List Fl
           (before-lex (slotAt (l .keys) (l .ids) m) (slotAt (l .keys) (l .ids) i) (sorted-at (l .used) (slotAt (l .keys) (l .ids)) (ordered o .order) m i h k))
 
       -- the nearest as the turn leaves it, with the square of this row's distance
-      module _ (sq : Float) (d : sqrtOf sq ≡ away s x here) {after : Nearest} (a : after ≡ nearerBy (s .«tol_dist») best (idIn here) sq) where
+      module _ (sq : Float) (d : sqrtOf sq ≡ off) {after : Nearest} (a : after ≡ nearerBy tol best (idIn here) sq) where
         abbrev Next : Type 0
         Next = Looking s l key x (i + 1) after
 
         -- this row is chosen now
-        chosen-now : takesPlace (s .«tol_dist») (best .any) (best .square) sq ≡ true → le (away s x here) (s .«tol_dist») ≡ true
+        chosen-now : takesPlace tol (best .any) (best .square) sq ≡ true → le off tol ≡ true
             → nearest s x (nearRows s x (table l)) ≡ nearerOf s x here (nearest s x tail) → Next
         unfolding with
         chosen-now t n e =
-            let b : after ≡ record { any = true; id = idIn here; square = sq } = a ∙ takes (s .«tol_dist») best (idIn here) sq t in
+            let b : after ≡ record { any = true; id = idIn here; square = sq } = a ∙ takes tol best (idIn here) sq t in
             record {
               from = omega (arith, w .from);
               upto = omega arith;
@@ -232,9 +238,9 @@ module _ (s : GridSearch) (l : Library) (o : InOrder l) (key : ℕ) (x : List Fl
             }
 
         -- what was chosen stays
-        as-before : takesPlace (s .«tol_dist») (best .any) (best .square) sq ≡ false → nearest s x (nearRows s x (table l)) ≡ with s l key x (w .row) (nearest s x tail) → Next
+        as-before : takesPlace tol (best .any) (best .square) sq ≡ false → nearest s x (nearRows s x (table l)) ≡ with s l key x (w .row) (nearest s x tail) → Next
         as-before t e =
-            let b : after ≡ best = a ∙ leaves (s .«tol_dist») best (idIn here) sq t in
+            let b : after ≡ best = a ∙ leaves tol best (idIn here) sq t in
             record {
               from = omega (arith, w .from);
               upto = omega arith;
@@ -256,32 +262,49 @@ module _ (s : GridSearch) (l : Library) (o : InOrder l) (key : ℕ) (x : List Fl
               there = z .there;
             }
 
+        -- no row is chosen yet
+        first-met : w .row ≡ none → best .any ≡ false → Next
+        unfolding with
+        first-met e z =
+            let t : takesPlace tol (best .any) (best .square) sq ≡ le off tol = place-near tol (best .any) (best .square) sq z ∙ ap (λ (v : Float). le v tol) d in
+            by-test (le off tol) (λ h. chosen-now (t ∙ h) h (rest-near h ∙ ap (λ (o : Option Row). with s l key x o (nearerOf s x here (nearest s x tail))) e))
+            (λ h. as-before (t ∙ h) (rest-far h))
+
+        -- a row is chosen: a nearer one takes its place, and one that is not near is no nearer
+        module _ (b : Row) (e : w .row ≡ some b) (z : Held s l key x i b best) where
+          judged : takesPlace tol (best .any) (best .square) sq ≡ lt off (away s x b)
+          judged = place-nearer tol (best .any) (best .square) sq (z .any) ∙ ap₂ lt d (z .distance)
+
+          both : le off tol ≡ true → nearest s x (nearRows s x (table l)) ≡ nearerOf s x b (nearerOf s x here (nearest s x tail))
+          unfolding with
+          both h = rest-near h ∙ ap (λ (o : Option Row). with s l key x o (nearerOf s x here (nearest s x tail))) e
+
+          goes-before : le off tol ≡ true → lt off (away s x b) ≡ false → chosenBefore s x b here ≡ true
+          goes-before h g = no-nearer s x b here (le-left (away s x b) tol (z .near)) (le-left off tol h) g (lower b (z .inside) (z .place) (z .earlier) (z .there))
+
+          stays : le off tol ≡ true → lt off (away s x b) ≡ false → nearest s x (nearRows s x (table l)) ≡ with s l key x (w .row) (nearest s x tail)
+          unfolding with
+          stays h g = both h ∙ stays-chosen s x b here (goes-before h g) (nearest s x tail) ∙ ap (λ (o : Option Row). with s l key x o (nearest s x tail)) (sym e)
+
+          far : le off tol ≡ false → lt off (away s x b) ≡ false
+          far h = by-test (lt off (away s x b)) (λ g. clash (le-join off (away s x b) tol (lt-le off (away s x b) g) (z .near)) h) (λ g. g)
+
+          after-another : Next
+          after-another =
+              by-test (le off tol)
+              (λ h. by-test (lt off (away s x b)) (λ g. chosen-now (judged ∙ g) h (both h ∙ nearer-chosen s x b here g (nearest s x tail))) (λ g. as-before (judged ∙ g) (stays h g)))
+              (λ h. as-before (judged ∙ far h) (rest-far h))
+
         pub look-again : Next
-        unfolding nearerOf with
         look-again = go (w .row) refl (w .kept)
           where
-            go : (r : Option Row) → w .row ≡ r → Kept s l key x i r best → Next
-            go none e z =
-                let t : takesPlace (s .«tol_dist») (best .any) (best .square) sq ≡ le (away s x here) (s .«tol_dist») = place-near (s .«tol_dist») (best .any) (best .square) sq (z .0) ∙ ap (λ (v : Float). le v (s .«tol_dist»)) d in
-                by-test (le (away s x here) (s .«tol_dist»)) (λ h. chosen-now (t ∙ h) h (rest-near h ∙ ap (λ (q : Option Row). with s l key x q (nearerOf s x here (nearest s x tail))) e))
-                (λ h. as-before (t ∙ h) (rest-far h))
-            go (some b) e z =
-                let t : takesPlace (s .«tol_dist») (best .any) (best .square) sq ≡ lt (away s x here) (away s x b) =
-                place-nearer (s .«tol_dist») (best .any) (best .square) sq (z .any) ∙ ap (λ (v : Float). lt v (sqrtOf (best .square))) d ∙ ap (lt (away s x here)) (z .distance) in
-                by-test (le (away s x here) (s .«tol_dist»))
-                (λ h.
-                let all = rest-near h ∙ ap (λ (v : Option Row). with s l key x v (nearerOf s x here (nearest s x tail))) e in
-                by-test (lt (away s x here) (away s x b)) (λ g. chosen-now (t ∙ g) h (all ∙ nearer-chosen s x b here g (nearest s x tail)))
-                (λ g.
-                let first = no-nearer s x b here (le-left (away s x b) (s .«tol_dist») (z .near)) (le-left (away s x here) (s .«tol_dist») h) g (lower b (z .inside) (z .place) (z .earlier) (z .there)) in
-                as-before (t ∙ g) (all ∙ stays-chosen s x b here first (nearest s x tail) ∙ ap (λ (v : Option Row). with s l key x v (nearest s x tail)) (sym e))))
-                (λ h.
-                let far : lt (away s x here) (away s x b) ≡ false =
-                by-test (lt (away s x here) (away s x b)) (λ g. clash (le-join (away s x here) (away s x b) (s .«tol_dist») (lt-le (away s x here) (away s x b) g) (z .near)) h) (λ g. g) in
-                as-before (t ∙ far) (rest-far h))
+            go : (o : Option Row) → w .row ≡ o → Kept s l key x i o best → Next
+            go none e z = first-met e (z .0)
+            go (some b) e z = after-another b e z
 
       -- the same of the row and the square as the code has them
-      pub look-on : {r : Row} → r ≡ here → {sq : Float} → sq ≡ pointSquare (coords (s .ndim) (r .at)) x → {after : Nearest} → after ≡ nearerBy (s .«tol_dist») best (idIn r) sq → Looking s l key x (i + 1) after
+      pub look-on : {r : Row} → r ≡ here → {sq : Float} → sq ≡ pointSquare (coords (s .ndim) (r .at)) x
+          → {after : Nearest} → after ≡ nearerBy tol best (idIn r) sq → Looking s l key x (i + 1) after
       unfolding away pointPoint
       look-on e {sq} d a =
-          look-again sq (ap sqrtOf d ∙ ap (λ (q : Row). sqrtOf (pointSquare (coords (s .ndim) (q .at)) x)) e) (a ∙ ap (λ (q : Row). nearerBy (s .«tol_dist») best (idIn q) sq) e)
+          look-again sq (ap sqrtOf d ∙ ap (λ (q : Row). sqrtOf (pointSquare (coords (s .ndim) (q .at)) x)) e) (a ∙ ap (λ (q : Row). nearerBy tol best (idIn q) sq) e)

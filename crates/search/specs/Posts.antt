@@ -22,6 +22,7 @@ unfoldable pub takesPlace : Float → Bool → Float → Float → Bool
 unfolding lt le sqrtOf
 takesPlace tol any least s = cond any (lt (sqrtOf s) (sqrtOf least)) (le (sqrtOf s) tol)
 
+-- the nearest once the next row is met, which has this id and this square of its distance
 unfoldable pub nearerBy : Float → Nearest → ℕ → Float → Nearest
 unfolding takesPlace
 nearerBy tol best i s = cond (takesPlace tol (best .any) (best .square) s) (record { any = true; id = i; square = s }) best

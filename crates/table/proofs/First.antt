@@ -154,7 +154,9 @@ parting-turn p from q n i a f s w (inr x) =
     come d = subst (λ (m : ℕ). p < from + m * q + q) (sym same) (close d)
 
 pub parting-end : (p from q n i : ℕ) → 8 ≤ i → Parting p from q n i → InPart p from q (from + n * q)
-parting-end p from q n i h w = record { least = w .least; most = let k : n * q ≤ 7 * q = mul-le-mul-right q (omega (arith, w .count, w .few)) in omega arith; within = λ g. w .within (short g (decLe 7 n)) }
+parting-end p from q n i h w =
+    let k : n * q ≤ 7 * q = mul-le-mul-right q (omega (arith, w .count, w .few)) in
+    record { least = w .least; most = omega arith; within = λ g. w .within (short g (decLe 7 n)) }
   where
     short : from + n * q < from + 7 * q → Dec (7 ≤ n) → n + 1 < i
     short g (yes k) = let l : 7 * q ≤ n * q = mul-le-mul-right q k in absurd (omega arith)

@@ -17,7 +17,8 @@ are-slots-good-requires c κs =
 returns-2 : tie.Need-returns-2
 returns-2 c =
     let a = c .before .before .before .before .before .before .before .before .before in
-    by-slots (a .args .sheet) _ (a .pre) (c .before .before .before .are-points-good .ensures) (not-false _ (c .before .before .if1 .left)) (c .before .container-count .ensures) (c .are-slots-good .ensures)
+    by-slots (a .args .sheet) _ (a .pre) (c .before .before .before .are-points-good .ensures) (not-false _ (c .before .before .if1 .left))
+    (c .before .container-count .ensures) (c .are-slots-good .ensures)
 
 pub are-rows-good-spec : {M : Type 1} → statement M
 are-rows-good-spec =

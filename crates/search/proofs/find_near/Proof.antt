@@ -34,7 +34,8 @@ returns c =
     let a = c .before .before .before .before .before .before .before .before .before .before .before .before .before in
     let l = c .before .before .before in
     c .found-of .ensures
-    ∙ ap success (look-stop (a .args .sheet) _ (a .pre .1 .1) (a .args .key) _ (a .pre .1 .0) (l .before .loop .i) (l .before .loop .best) (l .before .loop .inv) (l .loop-test .taken) (c .before .if1 .taken))
+    ∙ ap success
+    (look-stop (a .args .sheet) _ (a .pre .1 .1) (a .args .key) _ (a .pre .1 .0) (l .before .loop .i) (l .before .loop .best) (l .before .loop .inv) (l .loop-test .taken) (c .before .if1 .taken))
 
 read-row-requires : tie.Need-read-row-requires Inv-loop μ-loop
 read-row-requires c κs =
