@@ -63,6 +63,27 @@ extern "C" {
         removed: *mut u64,
     ) -> u64;
 
+    pub fn gemlab_grid_search_check(
+        numbers: *const u64,
+        numbers_len: usize,
+        floats: *const f64,
+        floats_len: usize,
+        keys: *const u64,
+        keys_len: usize,
+        ids: *const u64,
+        ids_len: usize,
+        xs: *const f64,
+        xs_len: usize,
+        ys: *const f64,
+        ys_len: usize,
+        zs: *const f64,
+        zs_len: usize,
+        used: u64,
+        broken: *mut u64,
+        row: *mut u64,
+        visited: *mut u64,
+    ) -> u64;
+
     pub fn gemlab_grid_search_search(
         numbers: *const u64,
         numbers_len: usize,
