@@ -3,8 +3,8 @@
 use Prim.Native.Nat.{ℕ, zero, suc, _+_, _≤_, _<_, zero-le, suc-le-suc}
 use native.Mathlib.Nat.{le-of-suc-le-suc, not-suc-le-zero}
 use native.Mathlib.Omega.{arith}
-use mathlib.Core.Path.{_≡_, refl, ap, ap₂}
-use mathlib.Core.Bool.{Bool, true, false, not, _&&_}
+use mathlib.Core.Path.{_≡_, refl, ap}
+use mathlib.Core.Bool.{Bool, true, false, not}
 use mathlib.Core.List.{List, [], _∷_, _++_, map, map-append}
 use lib.ListN.{length, getD, take, drop}
 use Rattle.basics.proofs.Bools.{by-test, clash, both, and-left, and-right}
@@ -71,27 +71,6 @@ module _ {A B : Type 0} where
 -- ---- tests of every entry
 
 module _ {A : Type 0} where
-  pub all-both : (p q : A → Bool) (l : List A) → all (λ (x : A). p x && q x) l ≡ (all p l && all q l)
-  unfolding all
-  all-both p q [] = refl
-  all-both p q (x ∷ l) = rw (all-both p q l) (swapped (p x) (q x) (all p l) (all q l))
-    where
-      swapped : (a b c d : Bool) → ((a && b) && (c && d)) ≡ ((a && c) && (b && d))
-      swapped false b c d = refl
-      swapped true false false d = refl
-      swapped true false true d = refl
-      swapped true true c d = refl
-
-  pub all-same : (p q : A → Bool) (l : List A) → ((x : A) → p x ≡ q x) → all p l ≡ all q l
-  unfolding all
-  all-same p q [] e = refl
-  all-same p q (x ∷ l) e = ap₂ (λ (a b : Bool). a && b) (e x) (all-same p q l e)
-
-  pub all-map : {B : Type 0} (p : A → Bool) (f : B → A) (l : List B) → all p (map f l) ≡ all (λ (x : B). p (f x)) l
-  unfolding all
-  all-map p f [] = refl
-  all-map p f (x ∷ l) = ap (λ (b : Bool). p (f x) && b) (all-map p f l)
-
   -- every entry by its index
   pub all-tab : (p : A → Bool) (n : ℕ) (f : ℕ → A) → ((i : ℕ) → i < n → p (f i) ≡ true) → all p (tab n f) ≡ true
   unfolding all

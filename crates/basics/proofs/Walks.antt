@@ -5,9 +5,8 @@ use native.Mathlib.Numerals.{add-one}
 use mathlib.Core.Path.{_≡_, sym, _∙_}
 use mathlib.Core.Bool.{Bool, true, false, _&&_, and-true, and-assoc}
 use mathlib.Core.List.{List}
-use lib.ListN.{length, getD, take, drop, drop-of-length-le}
-use lib.Seq.{drop-cons, slice-cons, slice-empty}
-use native.Mathlib.Omega.{arith}
+use lib.ListN.{length, getD, drop, drop-of-length-le}
+use lib.Seq.{drop-cons}
 use Rattle.basics.specs.Lists.{all}
 
 module _ {A : Type 0} where
@@ -34,13 +33,3 @@ module _ {A : Type 0} where
     pub all-joined : length xs ≤ i → all p xs ≡ ok
     unfolding all
     all-joined h = walk ∙ rw (drop-of-length-le xs h) (and-true ok)
-
-  -- a walk over the first n with a flag that holds what was passed: a turn, and the end
-  pub all-turn : (p : A → Bool) (n : ℕ) (s : List A) (d : A) (i : ℕ) (ok : Bool) → i < n → n ≤ length s
-      → (ok && all p (drop i (take n s))) ≡ ((ok && p (getD s i d)) && all p (drop (i + 1) (take n s)))
-  unfolding all
-  all-turn p n s d i ok h k = rw (add-one, slice-cons i n s d h k) (sym (and-assoc ok (p (getD s i d)) (all p (drop (suc i) (take n s)))))
-
-  pub all-turned : (p : A → Bool) (n : ℕ) (s : List A) (i : ℕ) (ok : Bool) → i ≤ n → n ≤ i → (ok && all p (drop i (take n s))) ≡ ok
-  unfolding all
-  all-turned p n s i ok h k = let e : i ≡ n = omega arith in rw (e, slice-empty n s) (and-true ok)

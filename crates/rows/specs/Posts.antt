@@ -15,7 +15,8 @@ use Rattle.geometry.specs.Position.{positionOf, coordinate, dimension}
 use Rattle.grid.specs.Divisions.{counts, division}
 use Rattle.grid_search.specs.declared.GridSearch.{GridSearch}
 use Rattle.grid_search.specs.Sheet.{toleranceOf}
-use Rattle.table.specs.Rows.{sorted, slotsOf, putIn}
+use Rattle.table.specs.declared.Row.{Row}
+use Rattle.table.specs.Rows.{Slot, slotted, keyIn, xIn, yIn, zIn, putIn}
 use Rattle.table.specs.Library.{Library, table}
 use Rattle.table.specs.Posts.{Room}
 use Rattle.rows.specs.Insert.{outsideSheet, overshoots, containerOf, halo, rowsWith, insertTests}
@@ -25,17 +26,22 @@ use Rattle.rows.specs.declared.Judged.the-variants as judged
 abbrev pub plusZero : Float → Bool
 plusZero z = sameBits z zeroF
 
+-- ---- the walk over the rows
+
 -- the third coordinate of a row: +0 in 2D
 abbrev pub third : ℕ → Float → Bool
-third n z = cond (eqb n 3) (coordinate z) (plusZero z)
+third n z = cond (eqb n 2) (plusZero z) (coordinate z)
 
--- the first n of two lists are slots in strict order, their keys below a count
-abbrev pub slotsOk : ℕ → List ℕ → List ℕ → ℕ → Bool
-slotsOk count keys ids n = all (λ (k : ℕ). ltb k count) (take n keys) && sorted (slotsOf keys ids n)
+-- a row by itself, where there are so many axes and containers
+abbrev pub goodIn : ℕ → ℕ → Row → Bool
+goodIn n count r = third n (zIn r) && (ltb (keyIn r) count && (coordinate (xIn r) && coordinate (yIn r)))
 
--- the first n of three lists are coordinates, the third +0 in 2D
-abbrev pub pointsOk : ℕ → List Float → List Float → List Float → ℕ → Bool
-pointsOk ndim xs ys zs n = all coordinate (take n xs) && (all coordinate (take n ys) && all (third ndim) (take n zs))
+-- the slot of the row before, which the code keeps as its id and its key plus one; the bound of the first row is 0
+abbrev pub slotBefore : ℕ → ℕ → Option Slot
+slotBefore zero last = none
+slotBefore (suc key) last = some (slotted key last)
+
+-- ---- what is known of a sheet and of lists
 
 -- what a container's key is worked out from is in order
 pub record Divided (s : GridSearch) : Type 0 where

@@ -1,21 +1,22 @@
 // Module 6: a library of marks on a sheet, in five lent slices: its check, and insertion. From gemlab's
 // `GridSearch::insert`, `update_or_insert` and `set_halo`.
 ghost use mathlib.Core.Path.{_≡_};
-ghost use mathlib.Core.Bool.{true, false, cond};
+ghost use mathlib.Core.Bool.{true, false, cond, _&&_};
 ghost use mathlib.Core.List.{[], _++_};
 ghost use Prim.Native.Nat.{ℕ, _%_, _^_, _≤_, _<_};
-ghost use lib.Dec.{ltb, eqb};
-ghost use lib.ListN.{length, take};
-ghost use Rattle.basics.specs.Lists.{all};
-ghost use Rattle.basics.specs.Refusals.{fault, code};
+ghost use lib.Dec.{eqb};
+ghost use lib.ListN.{length};
+ghost use Rattle.basics.specs.Refusals.{fault, code, success};
 ghost use Rattle.floats.specs.Rounded.{_⊕_, _⊖_};
 ghost use Rattle.geometry.specs.Position.{coords, dimension};
 ghost use Rattle.table.specs.Library.{library, table, space, tooLong, soundLayout};
-ghost use Rattle.table.specs.Posts.{Rising, lists};
-ghost use Rattle.rows.specs.Damage.{soundRows, libraryTests};
+ghost use Rattle.table.specs.Rows.{slotted, rowOf};
+ghost use Rattle.table.specs.Posts.{Room, lists};
+ghost use Rattle.rows.specs.Damage.{libraryTests};
+ghost use Rattle.rows.specs.Check.{above, walk, checking, walked};
 ghost use Rattle.rows.specs.Turn.{Gives};
 ghost use Rattle.rows.specs.Insert.{outsideSheet, corner, positionTests, insertion, inserted, usedAfter};
-ghost use Rattle.rows.specs.Posts.{plusZero, slotsOk, pointsOk, Divided, Checked, Added, FoundTargets, Judges};
+ghost use Rattle.rows.specs.Posts.{third, goodIn, slotBefore, Divided, Added, FoundTargets, Judges};
 use geometry::Position;
 use grid::Located;
 use grid_search::GridSearch;
@@ -27,6 +28,14 @@ const MAX_ROWS: usize = 65536;
 // What `insert` answers: how many rows are in use now, or the refusal.
 pub enum Inserted {
     Stored(usize),
+    Refused(u64),
+}
+
+// What `check_library` answers: the lowest bad row, and how many rows were visited up to it, that one too; how many were visited, none
+// of them bad; or the refusal.
+pub enum Walked {
+    Bad(usize, usize),
+    Sound(usize),
     Refused(u64),
 }
 
@@ -54,62 +63,91 @@ fn is_layout_sound(
     ((ids.len() == n) & ((xs.len() == n) & ((ys.len() == n) & (zs.len() == n)))) & (used <= n)
 }
 
-// Whether each of the first n is +0. A flag, and no way out of the loop: two values are taken at a time.
-fn are_plus_zeros(s: &[f64], n: usize) -> bool
-    requires { ⌜ n ≤ length (now s) ⌝ }
-    ensures { λ r. ⌜ r ≡ all plusZero (take n (now (s .entry))) ⌝ }
+// 1 where a test says yes, and else 0.
+fn one_if(b: bool) -> u64
+    ensures { λ r. ⌜ r ≡ cond b 1 0 ⌝ }
 {
-    let mut ok = true;
-    let mut i = 0;
-    while i < n {
-        ok = ok & floats::same_bits(s[i], 0.0);
-        i += 1;
-    }
-    ok
+    if b { 1 } else { 0 }
 }
 
-// Whether each key is below the container count. They ascend, so the last one tells.
-fn are_keys_below(keys: &[u64], used: usize, count: u64) -> bool
-    requires { ⌜ Rising (now keys) used ⌝ }
-    ensures { λ r. ⌜ r ≡ all (λ (k : ℕ). ltb k count) (take used (now (keys .entry))) ⌝ }
+// Whether (key, id), for a key below 2^32, stands above the row before it: `bound` is that row's key plus one and `last` its
+// id, or `bound` is 0 where there is none. A sum in place of a choice: that takes fewer instructions.
+fn is_above(bound: u64, last: u64, key: u64, id: u64) -> bool
+    ensures { λ r. ⌜ (key < 2 ^ 32 → r ≡ above (slotBefore bound last) (slotted key id)) ⌝ }
 {
-    if used == 0 {
-        return true;
-    }
-    keys[used - 1] < count
+    bound <= key % 0x1_0000_0000 + one_if(last < id)
 }
 
-// Whether the first `used` of two lists are slots in strict order, their keys below a count.
-fn are_slots_good(keys: &[u64], ids: &[u64], used: usize, count: u64) -> bool
-    requires { ⌜ (used ≤ length (now keys)) × (used ≤ length (now ids)) ⌝ ∗ ⌜ count ≤ 2 ^ 32 ⌝ }
-    ensures { λ r. ⌜ r ≡ slotsOk count (now (keys .entry)) (now (ids .entry)) used ⌝ }
+// Whether z may be the third coordinate of a row.
+fn is_third(ndim: usize, z: f64) -> bool
+    ensures { λ r. ⌜ r ≡ third ndim z ⌝ }
 {
-    if !table::ascend(keys, ids, used) {
-        return false;
-    }
-    are_keys_below(keys, used, count)
-}
-
-// Whether the first `used` of three lists are coordinates, the third +0 in 2D. Each entry is read once, list by list.
-fn are_points_good(ndim: usize, xs: &[f64], ys: &[f64], zs: &[f64], used: usize) -> bool
-    requires { ⌜ dimension ndim ≡ true ⌝ ∗ ⌜ (used ≤ length (now xs)) × (used ≤ length (now ys)) × (used ≤ length (now zs)) ⌝ }
-    ensures { λ r. ⌜ r ≡ pointsOk ndim (now (xs .entry)) (now (ys .entry)) (now (zs .entry)) used ⌝ }
-{
-    if !geometry::all_coordinates(&xs[..used]) {
-        return false;
-    }
-    if !geometry::all_coordinates(&ys[..used]) {
-        return false;
-    }
     if ndim == 2 {
-        are_plus_zeros(zs, used)
+        floats::same_bits(z, 0.0)
     } else {
-        geometry::all_coordinates(&zs[..used])
+        geometry::is_coordinate(z)
     }
 }
 
-// Whether the rows in use are good, each by itself, and in strict order.
-fn are_rows_good(
+// Whether a row is good by itself and stands above the one before it, which is told as `is_above` has it. Every test is made,
+// with no branch between them: in this order the compiler makes the fewest instructions of them.
+fn is_good(
+    ndim: usize,
+    count: u64,
+    bound: u64,
+    last: u64,
+    key: u64,
+    id: u64,
+    x: f64,
+    y: f64,
+    z: f64,
+) -> bool
+    requires { ⌜ count ≤ 2 ^ 32 ⌝ }
+    ensures { λ r. ⌜ r ≡ (goodIn ndim count (rowOf key id x y z) && above (slotBefore bound last) (slotted key id)) ⌝ }
+{
+    is_third(ndim, z)
+        & ((key < count)
+            & (is_above(bound, last, key, id)
+                & (geometry::is_coordinate(x) & geometry::is_coordinate(y))))
+}
+
+// Goes over the rows in use, each once, up to the first that is bad by itself or does not stand above the one before it.
+// Tells that row or none, and how many rows were visited.
+fn walk_rows(
+    ndim: usize,
+    count: u64,
+    keys: &[u64],
+    ids: &[u64],
+    xs: &[f64],
+    ys: &[f64],
+    zs: &[f64],
+    used: usize,
+) -> Walked
+    requires { ⌜ count ≤ 2 ^ 32 ⌝ ∗ ⌜ Room (lists (now keys) (now ids) (now xs) (now ys) (now zs)) used ⌝ }
+    ensures { λ r. ⌜ walked r ≡ success (walk (goodIn ndim count) (table (library (now (keys .entry)) (now (ids .entry)) (now (xs .entry)) (now (ys .entry)) (now (zs .entry)) used))) ⌝ }
+{
+    let mut visited = 0;
+    // the row before: its key plus one, and its id
+    let mut bound = 0;
+    let mut last = 0;
+    while visited < used {
+        let row = visited;
+        visited += 1;
+        let key = keys[row];
+        let id = ids[row];
+        if !is_good(ndim, count, bound, last, key, id, xs[row], ys[row], zs[row]) {
+            return Walked::Bad(row, visited);
+        }
+        bound = key + 1;
+        last = id;
+    }
+    Walked::Sound(visited)
+}
+
+// Checks a library: the lowest row that breaks 13 by itself or is not above the row before it, or none, and how many rows
+// were visited, each once up to that row or the end. Refused with 24, or with 13 where the sheet is not the one its settings
+// give, the lists are of unequal length or the used count is above it. It is the check of every call that takes a library.
+pub fn check_library(
     sheet: GridSearch,
     keys: &[u64],
     ids: &[u64],
@@ -117,16 +155,25 @@ fn are_rows_good(
     ys: &[f64],
     zs: &[f64],
     used: usize,
-) -> bool
-    requires { ⌜ Checked sheet (library (now keys) (now ids) (now xs) (now ys) (now zs) used) ⌝ }
-    ensures { λ r. ⌜ r ≡ soundRows sheet (table (library (now (keys .entry)) (now (ids .entry)) (now (xs .entry)) (now (ys .entry)) (now (zs .entry)) used)) ⌝ }
+) -> Walked
+    ensures { λ r. ⌜ walked r ≡ checking sheet (library (now (keys .entry)) (now (ids .entry)) (now (xs .entry)) (now (ys .entry)) (now (zs .entry)) used) ⌝ }
 {
-    let ndim = sheet.ndim;
-    if !are_points_good(ndim, xs, ys, zs, used) {
-        return false;
+    if is_too_long(keys, ids, xs, ys, zs) {
+        return Walked::Refused(24);
     }
-    // last, as keys are looked at again to find a container: few of them have left the cache by then
-    are_slots_good(keys, ids, used, grid::container_count(ndim, sheet.ndiv))
+    if !grid_search::is_sheet(sheet) {
+        return Walked::Refused(13);
+    }
+    if !is_layout_sound(keys, ids, xs, ys, zs, used) {
+        return Walked::Refused(13);
+    }
+    let count = grid::container_count(sheet.ndim, sheet.ndiv);
+    // a loop for each dimension, of one text: with the dimension told outside, none of the tests is made twice
+    if sheet.ndim == 2 {
+        walk_rows(2, count, keys, ids, xs, ys, zs, used)
+    } else {
+        walk_rows(3, count, keys, ids, xs, ys, zs, used)
+    }
 }
 
 // What turns a library away: 24, 13, or 0.
@@ -141,19 +188,11 @@ pub fn library_fault(
 ) -> u64
     ensures { λ r. ⌜ r ≡ code (fault (libraryTests sheet (library (now (keys .entry)) (now (ids .entry)) (now (xs .entry)) (now (ys .entry)) (now (zs .entry)) used))) ⌝ }
 {
-    if is_too_long(keys, ids, xs, ys, zs) {
-        return 24;
-    }
-    if !grid_search::is_sheet(sheet) {
-        return 13;
-    }
-    if !is_layout_sound(keys, ids, xs, ys, zs, used) {
-        return 13;
-    }
-    if are_rows_good(sheet, keys, ids, xs, ys, zs, used) {
-        0
-    } else {
-        13
+    let checked = check_library(sheet, keys, ids, xs, ys, zs, used);
+    match checked {
+        Walked::Sound(_) => 0,
+        Walked::Bad(_, _) => 13,
+        Walked::Refused(n) => n,
     }
 }
 

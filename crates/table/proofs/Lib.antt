@@ -1,6 +1,5 @@
 -- Laws of rows: their order, what a store makes of them, the layout and what a store leaves in it, and the rows of one id.
 pub mod Order
-pub mod Ascent
 pub mod First
 pub mod Stores
 pub mod Meaning

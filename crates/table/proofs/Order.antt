@@ -1,20 +1,18 @@
 -- Laws of the order of slots: of two, of a list in strict order by its indices, and of where a slot stands in it.
 -- Assumes nothing.
-use Prim.Native.Nat.{ℕ, zero, suc, _+_, _-_, _≤_, _<_, zero-le, suc-le-suc}
+use Prim.Native.Nat.{ℕ, zero, suc, _+_, _≤_, _<_, zero-le, suc-le-suc}
 use native.Mathlib.Nat.{le-of-suc-le-suc, not-suc-le-zero, eq-or-lt-of-le}
-use native.Mathlib.Numerals.{add-one}
 use native.Mathlib.Omega.{arith}
 use mathlib.Core.Path.{_≡_, refl, sym, ap, subst}
 use mathlib.Core.Logic.{_⊎_, inl, inr, ⊎-elim}
-use mathlib.Core.Bool.{true, false, _&&_, false≢true, or-true}
+use mathlib.Core.Bool.{true, false, false≢true, or-true}
 use mathlib.Core.List.{List, [], _∷_}
-use lib.ListN.{length, drop}
+use lib.ListN.{length}
 use lib.Dec.{ltb, eqb}
 use borrow.Author.Tests.{ltb-true, eqb-true, lt-ltb, eq-eqb}
 use Rattle.basics.proofs.Bools.{by-test, clash, and-both, or-either}
 use Rattle.basics.specs.Lists.{tab}
 use Rattle.basics.proofs.Numbers.{trichotomy}
-use Rattle.basics.proofs.Lists.{drop-tab}
 use Rattle.table.specs.Rows.{Slot, before, same, chain, sorted, lower, held}
 
 -- ---- the order
@@ -97,22 +95,6 @@ sorted-at (suc n) f e zero (suc j) h k = chain-at (f 0) n (λ i. f (suc i)) e j 
 sorted-at (suc n) f e (suc i) zero h k = absurd (not-suc-le-zero h)
 sorted-at (suc n) f e (suc i) (suc j) h k =
     sorted-at n (λ m. f (suc m)) (chain-sorted (f 0) (tab n (λ m. f (suc m))) e) i j (le-of-suc-le-suc h) (le-of-suc-le-suc k)
-
--- a turn of the walk that checks the order, and its end
-pub sorted-step : (n : ℕ) (f : ℕ → Slot) (i : ℕ) → i + 1 < n → sorted (drop i (tab n f)) ≡ (before (f i) (f (i + 1)) && sorted (drop (i + 1) (tab n f)))
-unfolding sorted chain
-sorted-step n f i h =
-    let k : suc i < n = omega arith in
-    let g : i < n = omega arith in
-    rw (add-one, drop-tab n f i g, drop-tab n f (suc i) k)
-
-pub sorted-end : (n : ℕ) (f : ℕ → Slot) (i : ℕ) → n ≤ i + 1 → sorted (drop i (tab n f)) ≡ true
-unfolding sorted chain
-sorted-end zero f zero h = refl
-sorted-end zero f (suc i) h = refl
-sorted-end (suc zero) f zero h = refl
-sorted-end (suc (suc n)) f zero h = absurd (omega arith)
-sorted-end (suc n) f (suc i) h = sorted-end n (λ j. f (suc j)) i (omega arith)
 
 -- what stands at m settles all on one side of it
 module _ (p : Slot) (n : ℕ) (f : ℕ → Slot) (e : sorted (tab n f) ≡ true) (m : ℕ) (h : m < n) where

@@ -1,14 +1,14 @@
 -- What the functions over the rows ask and ensure. Definitions only.
-use Prim.Native.Nat.{ℕ, zero, suc, _+_, _*_, _^_, _≤_, _<_}
+use Prim.Native.Nat.{ℕ, zero, suc, _+_, _*_, _≤_, _<_}
 use mathlib.Core.Path.{_≡_}
 use mathlib.Core.Logic.{_⊎_}
-use mathlib.Core.Bool.{Bool, true, false}
+use mathlib.Core.Bool.{true}
 use mathlib.Core.List.{List, [], _∷_, map}
 use lib.ListN.{length, getD, set}
 use lib.Ieee.{Float}
 use Rattle.geometry.specs.declared.Position.{Position}
 use Rattle.table.specs.declared.Row.{Row}
-use Rattle.table.specs.Rows.{Slot, slotOf, before, sorted, slotsOf, keyIn, idIn, xIn, yIn, zIn, putIn}
+use Rattle.table.specs.Rows.{Slot, slotOf, sorted, slotsOf, keyIn, idIn, xIn, yIn, zIn, putIn}
 use Rattle.table.specs.Library.{Library, library, table, write, lengths}
 
 -- ---- keys alone, and keys with ids
@@ -23,20 +23,6 @@ pub record Ordered (keys ids : List ℕ) (used : ℕ) : Type 0 where
   pub in-keys : used ≤ length keys
   pub in-ids : used ≤ length ids
   pub order : sorted (slotsOf keys ids used) ≡ true
-
--- r tells whether p stands before q, for a q whose key is below 2 ^ 32
-pub record TellsBefore (p q : Slot) (r : Bool) : Type 0 where
-  pub yes : r ≡ true → before p q ≡ true
-  pub no : r ≡ false → before p q ≡ true → 2 ^ 32 ≤ q .key
-
--- one of the first keys is not below 2 ^ 32
-abbrev pub Large : List ℕ → ℕ → Type 0
-Large keys used = (j : ℕ) × (j < used) × (2 ^ 32 ≤ getD keys j 0)
-
--- r tells whether the first `used` entries of two lists are slots in strict order, for keys below 2 ^ 32
-pub record TellsSorted (keys ids : List ℕ) (used : ℕ) (r : Bool) : Type 0 where
-  pub yes : r ≡ true → sorted (slotsOf keys ids used) ≡ true
-  pub no : r ≡ false → sorted (slotsOf keys ids used) ≡ true → Large keys used
 
 -- what stands at `at` is before place p and r is 1, or it is not and r is 0
 abbrev pub OneBelow : ℕ → ℕ → ℕ → Type 0
