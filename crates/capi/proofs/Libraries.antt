@@ -1,4 +1,4 @@
--- What insertion, striking and search tell to C, from what the calls below them ensure.
+-- What insertion, striking, the check and search tell to C, from what the calls below them ensure.
 -- Assumes nothing.
 use Prim.Native.Nat.{ℕ}
 use mathlib.Core.Path.{_≡_, sym, ap, _∙_, subst}
@@ -8,6 +8,7 @@ use lib.Ieee.{Float}
 use Rattle.basics.specs.Refusals.{Answer, refused, success, through}
 use Rattle.grid_search.specs.declared.GridSearch.{GridSearch}
 use Rattle.rows.specs.declared.Inserted.{Inserted}
+use Rattle.rows.specs.declared.Walked.{Walked}
 use Rattle.strike.specs.declared.Struck.{Struck}
 use Rattle.table.specs.declared.ItemId.{ItemId}
 use Rattle.search.specs.declared.Found.{Found}
@@ -15,10 +16,11 @@ use Rattle.search.specs.declared.Found.the-variants.{Id, Nothing, Refused}
 use Rattle.search.specs.Search.{searchAnswer, found}
 use Rattle.table.specs.Library.{Library, library}
 use Rattle.rows.specs.Turn.{Turn, Gives}
+use Rattle.rows.specs.Check.{Walk, checking, walked}
 use Rattle.rows.specs.Insert.{insertion, inserted, usedAfter}
 use Rattle.strike.specs.Strike.{striking, struck, leftAfter}
 use Rattle.capi.specs.Answers.{number, written}
-use Rattle.capi.specs.Libraries.{ToldTurn, ToldStruck, flag, idAfter, ToldFound}
+use Rattle.capi.specs.Libraries.{ToldTurn, ToldStruck, flag, idAfter, ToldFound, badOf, visitedOf, ToldWalk}
 
 -- ---- a call that changes a library, on the sheet as the code has it: what its answers mean, and the rows in use after each
 
@@ -64,7 +66,16 @@ module _ {a : Answer (Option ℕ)} (old id : ℕ) where
   pub told-away : (n : ℕ) → refused n ≡ a → ToldFound a n old old id id
   told-away n e = told e
 
--- for a mark, on the sheet as the code has it
+-- ---- a check, on the sheet as the code has it
+
+module _ (l : Library) {s s′ : GridSearch} (same : s′ ≡ s) {r : Walked} (g : walked r ≡ checking s′ l) (broken row visited : ℕ) where
+  pub told-walk : {a : Walked} → r ≡ a
+      → ToldWalk (checking s l) (number (badOf (walked a))) broken (written (through flag (badOf (walked a))) broken) row (idAfter (badOf (walked a)) row) visited (written (visitedOf (walked a)) visited)
+  told-walk e =
+      let h = sym (ap walked e) ∙ g ∙ ap (λ (u : GridSearch). checking u l) same in
+      record { told = told broken row (ap badOf h); visited-is = ap (λ (b : Answer Walk). written (visitedOf b) visited) h }
+
+-- ---- a search for a mark, on the sheet as the code has it
 module _ (l : Library) (x : List Float) {s s′ : GridSearch} (same : s′ ≡ s) {r : Found} (g : found r ≡ searchAnswer s′ l x) (old id : ℕ) where
   answered : {b : Found} → r ≡ b → found b ≡ searchAnswer s l x
   answered e = sym (ap found e) ∙ g ∙ ap (λ (u : GridSearch). searchAnswer u l x) same

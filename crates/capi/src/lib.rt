@@ -14,6 +14,7 @@ pub use distances::gemlab_point_cylinder_distance;
 pub use distances::gemlab_point_line_distance;
 pub use distances::gemlab_point_point_distance;
 pub use index::gemlab_grid_cells_search;
+pub use library::gemlab_grid_search_check;
 pub use library::gemlab_grid_search_insert;
 pub use library::gemlab_grid_search_search;
 pub use library::gemlab_grid_search_strike;

@@ -1,12 +1,14 @@
-// A library of marks on a sheet: insertion, striking and search.
+// A library of marks on a sheet: insertion, striking, check and search.
 ghost use Rattle.table.specs.Library.{library};
+ghost use Rattle.rows.specs.Check.{checking};
 ghost use Rattle.rows.specs.Insert.{insertion};
 ghost use Rattle.strike.specs.Strike.{striking};
 ghost use Rattle.search.specs.Search.{searchAnswer};
 ghost use Rattle.capi.specs.Sheets.{sheetOf};
-ghost use Rattle.capi.specs.Libraries.{ToldTurn, ToldStruck, ToldFound};
+ghost use Rattle.capi.specs.Libraries.{ToldTurn, ToldStruck, ToldWalk, ToldFound};
 use crate::sheet::sheet_of;
 use rows::Inserted;
+use rows::Walked;
 use search::Found;
 use strike::Struck;
 use table::ItemId;
@@ -73,6 +75,45 @@ pub extern "C" fn gemlab_grid_search_strike(
             0
         }
         Struck::Refused(n) => n,
+    }
+}
+
+// Checks the rows of a library, each once up to the first bad one: broken is 1 and row the lowest row that breaks 13 by itself or
+// is not above the row before it, or broken is 0 and row stays; visited is how many rows were visited. Returns 0, or the first of
+// 24 and 13 that applies (the sheet, the lengths of the lists, the used count), and then writes nothing.
+#[no_mangle]
+pub extern "C" fn gemlab_grid_search_check(
+    numbers: &[u64],
+    floats: &[f64],
+    keys: &[u64],
+    ids: &[u64],
+    xs: &[f64],
+    ys: &[f64],
+    zs: &[f64],
+    used: u64,
+    broken: &mut u64,
+    row: &mut u64,
+    visited: &mut u64,
+) -> u64
+    ensures { λ r. ⌜ ToldWalk (checking (sheetOf (now (numbers .entry)) (now (floats .entry)))
+        (library (now (keys .entry)) (now (ids .entry)) (now (xs .entry)) (now (ys .entry)) (now (zs .entry)) used))
+        r (now (broken .entry)) (now (broken .exit)) (now (row .entry)) (now (row .exit)) (now (visited .entry)) (now (visited .exit)) ⌝ }
+{
+    let sheet = sheet_of(numbers, floats);
+    let answer = rows::check_library(sheet, keys, ids, xs, ys, zs, used as usize);
+    match answer {
+        Walked::Bad(i, n) => {
+            *broken = 1;
+            *row = i as u64;
+            *visited = n as u64;
+            0
+        }
+        Walked::Sound(n) => {
+            *broken = 0;
+            *visited = n as u64;
+            0
+        }
+        Walked::Refused(n) => n,
     }
 }
 
