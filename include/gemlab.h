@@ -243,9 +243,11 @@ uint64_t gemlab_grid_search_new(const double *xmin, size_t xmin_len,
  * changes them only where a new row takes their place; a striking sets them to 0. A space is at
  * most 65,536.
  *
- * Every call looks at the whole library first, and says 13 where the sheet is damaged, the lists
- * differ in length, the count is above that, rows are out of order, a key is not below the number
- * of containers, or a coordinate is not finite, past its limit, or in 2D a third one is not +0.
+ * A row in use is bad where its key is not below the number of containers, a coordinate is not
+ * finite or past its limit, in 2D the third one is not +0, or the row is not above the one before
+ * it by key, then id. Every call looks at the library first, and says 13 where the sheet is
+ * damaged, the lists differ in length, the count is above that, or a row is bad. In this last case
+ * gemlab_grid_search_check alone says 0, and tells the row.
  */
 
 /*
@@ -285,6 +287,26 @@ uint64_t gemlab_grid_search_strike(const uint64_t *numbers, size_t numbers_len,
                                    uint64_t *used,
                                    uint64_t id,
                                    uint64_t *removed);
+
+/*
+ * The lowest bad row of the library: *broken becomes 1 and *row its number, counted from 0, or
+ * *broken becomes 0 and *row stays. The rows in use are visited in order and once each, up to that
+ * row or to the last, and *visited becomes how many they were: *row + 1, or used. Every other call
+ * on a library says 13 exactly where this one says 13 or tells a row. gemlab has no such call: it
+ * keeps its rows itself.
+ * Refusals: 24, 13 (a damaged sheet, lists of unequal length, a count above them).
+ */
+uint64_t gemlab_grid_search_check(const uint64_t *numbers, size_t numbers_len,
+                                  const double *floats, size_t floats_len,
+                                  const uint64_t *keys, size_t keys_len,
+                                  const uint64_t *ids, size_t ids_len,
+                                  const double *xs, size_t xs_len,
+                                  const double *ys, size_t ys_len,
+                                  const double *zs, size_t zs_len,
+                                  uint64_t used,
+                                  uint64_t *broken,
+                                  uint64_t *row,
+                                  uint64_t *visited);
 
 /*
  * The mark at x: of the rows in x's container whose distance from x is at most tol_dist, the id
