@@ -1,6 +1,6 @@
 /* A small survey job: a sheet, posts put into a library, a post found by position, the posts on a line, and a probe
- * placed in the mesh of a basin. It uses every function of gemlab.h and prints what it finds. The numbers that it has to
- * print, survey.expected, are gemlab's: compare/stored/survey.rs does the same job with gemlab's Rust.
+ * placed in the mesh of a basin. It uses every function of gemlab.h that gemlab has too, and prints what it finds. The numbers
+ * that it has to print, survey.expected, are gemlab's: compare/stored/survey.rs does the same job with gemlab's Rust.
  *
  *     gcc -Iinclude examples/survey.c target/staticlib/libcapi.a -o survey && ./survey
  */
