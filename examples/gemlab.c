@@ -120,6 +120,32 @@ static void strike(uint64_t id)
     }
 }
 
+/* The lowest bad row of the library, of which so many rows are said to be in use. */
+static void check(uint64_t rows)
+{
+    uint64_t broken = 7, row = 8, visited = 9;
+    uint64_t number = gemlab_grid_search_check(sheet_numbers, GEMLAB_SHEET_NUMBERS, sheet_floats, GEMLAB_SHEET_FLOATS,
+                                               keys, 8, ids, 8, xs, 8, ys, 8, zs, 8, rows, &broken, &row, &visited);
+
+    printf("check of %" PRIu64 " rows: ", rows);
+    if (number != GEMLAB_DONE) {
+        printf("refused %" PRIu64 ", results still %" PRIu64 " %" PRIu64 " %" PRIu64 "\n", number, broken, row, visited);
+    } else if (broken) {
+        printf("row %" PRIu64 " is bad, %" PRIu64 " visited\n", row, visited);
+    } else {
+        printf("none is bad, %" PRIu64 " visited, row still %" PRIu64 "\n", visited, row);
+    }
+}
+
+/* Exchanges row 2 with row 3. Both are of one mark at one place, so that their keys are all that differs. */
+static void exchange(void)
+{
+    uint64_t key = keys[2];
+
+    keys[2] = keys[3];
+    keys[3] = key;
+}
+
 /* The mark at a position. */
 static void find(double x, double y)
 {
@@ -159,6 +185,16 @@ static void libraries(void)
     find(5.5, 2.5);
     put(6, 4, 2, 8);
     find(4.5, 0.5);
+    /* the library is sound, then damaged on purpose and mended */
+    check(used);
+    exchange();
+    check(used);
+    find(4.5, 0.5);
+    check(2);
+    exchange();
+    check(used);
+    check(0);
+    check(9);
     /* two seal anchors 0.1 mm apart, and then on both sides of the pole */
     used = 0;
     put(4, 5.5, 1.5, 8);
@@ -172,6 +208,7 @@ static void libraries(void)
     put(8, 3 - 9.0 / 4096, 0.5, 8);
     find(3, 0.5);
     keys[0] = 32;
+    check(used);
     find(3, 0.5);
 }
 
@@ -220,7 +257,7 @@ static double full_xs[FULL], full_ys[FULL], full_zs[FULL];
 static void full(void)
 {
     const double low[2] = {0, 0}, high[2] = {8, 4};
-    uint64_t count = 0, refusal;
+    uint64_t count = 0, broken = 7, row = 8, visited = 9, refusal;
 
     gemlab_grid_search_new(low, 2, high, 2, 1, 512, 0, 0, 1, 0,
                            sheet_numbers, GEMLAB_SHEET_NUMBERS, sheet_floats, GEMLAB_SHEET_FLOATS);
@@ -229,6 +266,10 @@ static void full(void)
         full_ids[i] = i * 40503 % FULL;
         full_xs[i] = 1000;
     }
+    gemlab_grid_search_check(sheet_numbers, GEMLAB_SHEET_NUMBERS, sheet_floats, GEMLAB_SHEET_FLOATS,
+                             full_keys, FULL, full_ids, FULL, full_xs, FULL, full_ys, FULL, full_zs, FULL, FULL,
+                             &broken, &row, &visited);
+    printf("check of a full library: broken %" PRIu64 ", %" PRIu64 " visited\n", broken, visited);
     refusal = gemlab_grid_search_list(sheet_numbers, GEMLAB_SHEET_NUMBERS, sheet_floats, GEMLAB_SHEET_FLOATS,
                                       full_keys, FULL, full_ids, FULL, full_xs, FULL, full_ys, FULL, full_zs, FULL, FULL,
                                       GEMLAB_CIRCLE, low, 2, low, 2, 1000, GEMLAB_EVERYTHING, 0, 0, 0,
