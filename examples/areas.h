@@ -27,6 +27,22 @@ static inline struct area make_area(size_t bytes)
     return area;
 }
 
+/* Two areas over one memory: what is written in the first is read in the second, which cannot be written. */
+static inline void make_views(size_t bytes, struct area *written, struct area *shown)
+{
+    FILE *memory = tmpfile();
+
+    *written = make_area(bytes);
+    *shown = make_area(bytes);
+    if (memory == NULL || ftruncate(fileno(memory), (off_t)written->size) != 0
+        || mmap(written->start, written->size, PROT_READ | PROT_WRITE, MAP_SHARED | MAP_FIXED, fileno(memory), 0) == MAP_FAILED
+        || mmap(shown->start, shown->size, PROT_READ, MAP_SHARED | MAP_FIXED, fileno(memory), 0) == MAP_FAILED) {
+        perror("areas");
+        exit(2);
+    }
+    fclose(memory);
+}
+
 static inline void free_area(const struct area *area)
 {
     size_t page = (size_t)sysconf(_SC_PAGESIZE);

@@ -1,6 +1,7 @@
-/* Insertion, striking, search and listing on libraries of every length up to 128, of 65,536 and of 65,537 rows, in 2D and 3D, with
-   every used count up to one above the length. Each list that is lent ends where memory ends, or begins where it begins:
-   pages that may not be touched stand on both sides of it. A refusal has to leave every byte as it was. */
+/* Insertion, striking, search and listing on libraries of every length up to 128, of 65,536 and of 65,537 rows, in 2D and
+   3D, with every used count up to one above the length. Each list that is lent ends where memory ends, or begins where it
+   begins: pages that may not be touched stand on both sides of it. A search and a listing get the rows where they cannot be
+   written. A refusal has to leave every byte as it was. */
 #define _DEFAULT_SOURCE
 #include "areas.h"
 #include "gemlab.h"
@@ -20,8 +21,9 @@ static void *entries(const struct area *area, size_t n, int at_end)
     return sized_entries(area, n, 8, at_end);
 }
 
-/* The five lists, the position, the list for ids, and what the five lists held before a call. */
-static struct area lists[LISTS], position, listed;
+/* The five lists, the same where they cannot be written, the position, the list for ids, and what the five lists held before
+   a call. */
+static struct area lists[LISTS], shown[LISTS], position, listed;
 static char *before[LISTS];
 static uint64_t numbers[GEMLAB_SHEET_NUMBERS];
 static double floats[GEMLAB_SHEET_FLOATS];
@@ -33,9 +35,10 @@ static void fail(const char *what, size_t dim, size_t len, uint64_t used, uint64
     exit(1);
 }
 
-/* A library as it is lent: the lists' entries and lengths, and the count. */
+/* A library as it is lent: the lists' entries, to be written and to be read alone, their lengths, and the count. */
 struct library {
     void *list[LISTS];
+    const void *shown[LISTS];
     size_t len[LISTS];
     uint64_t used;
 };
@@ -53,6 +56,7 @@ static struct library fill(size_t len, uint64_t used, int at_end)
     for (j = 0; j < LISTS; j++) {
         library.len[j] = len;
         library.list[j] = entries(&lists[j], len, at_end);
+        library.shown[j] = entries(&shown[j], len, at_end);
     }
     for (i = 0; i < len; i++) {
         uint64_t key = i < used ? i / 8 : UINT64_MAX, id = i < used ? i : 0;
@@ -114,8 +118,8 @@ static uint64_t strike(struct library *l, uint64_t id, uint64_t *removed)
 static uint64_t search(const struct library *l, const double *x, size_t x_len, uint64_t *found, uint64_t *id)
 {
     uint64_t number = gemlab_grid_search_search(numbers, GEMLAB_SHEET_NUMBERS, floats, GEMLAB_SHEET_FLOATS,
-                                                l->list[0], l->len[0], l->list[1], l->len[1], l->list[2], l->len[2],
-                                                l->list[3], l->len[3], l->list[4], l->len[4], l->used, x, x_len, found, id);
+                                                l->shown[0], l->len[0], l->shown[1], l->len[1], l->shown[2], l->len[2],
+                                                l->shown[3], l->len[3], l->shown[4], l->len[4], l->used, x, x_len, found, id);
     calls++;
     refusals[number]++;
     return number;
@@ -126,8 +130,8 @@ static uint64_t list(const struct library *l, const double *x, size_t x_len, uin
 {
     static const double origin[3] = {0, 0, 0};
     uint64_t number = gemlab_grid_search_list(numbers, GEMLAB_SHEET_NUMBERS, floats, GEMLAB_SHEET_FLOATS,
-                                              l->list[0], l->len[0], l->list[1], l->len[1], l->list[2], l->len[2],
-                                              l->list[3], l->len[3], l->list[4], l->len[4], l->used, GEMLAB_LINE,
+                                              l->shown[0], l->len[0], l->shown[1], l->len[1], l->shown[2], l->len[2],
+                                              l->shown[3], l->len[3], l->shown[4], l->len[4], l->used, GEMLAB_LINE,
                                               origin, x_len, x, x_len, 0, GEMLAB_EVERYTHING, 0, 0, 0, ids, ids_len, count);
     calls++;
     refusals[number]++;
@@ -285,6 +289,7 @@ static void unequal(size_t dim, size_t len, uint64_t used, int at_end)
         library.len[j] = len - 1;
         if (at_end) {
             library.list[j] = (char *)library.list[j] + 8;
+            library.shown[j] = (const char *)library.shown[j] + 8;
         }
         keep(&library);
         number = insert(&library, NEW_ID, x, dim);
@@ -338,7 +343,7 @@ int main(void)
     uint64_t used;
 
     for (i = 0; i < LISTS; i++) {
-        lists[i] = make_area((MOST + 1) * 8);
+        make_views((MOST + 1) * 8, &lists[i], &shown[i]);
         before[i] = malloc((MOST + 1) * 8);
         if (before[i] == NULL) {
             return 2;
