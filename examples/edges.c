@@ -1,7 +1,7 @@
-/* Insertion, striking, search and listing on libraries of every length up to 128, of 65,536 and of 65,537 rows, in 2D and
-   3D, with every used count up to one above the length. Each list that is lent ends where memory ends, or begins where it
-   begins: pages that may not be touched stand on both sides of it. A search and a listing get the rows where they cannot be
-   written. A refusal has to leave every byte as it was. */
+/* Insertion, striking, check, search and listing on libraries of every length up to 128, of 65,536 and of 65,537 rows, in 2D
+   and 3D, with every used count up to one above the length. Each list that is lent ends where memory ends, or begins where it
+   begins: pages that may not be touched stand on both sides of it. A check, a search and a listing get the rows where they
+   cannot be written. A refusal has to leave every byte as it was. */
 #define _DEFAULT_SOURCE
 #include "areas.h"
 #include "gemlab.h"
@@ -21,9 +21,9 @@ static void *entries(const struct area *area, size_t n, int at_end)
     return sized_entries(area, n, 8, at_end);
 }
 
-/* The five lists, the same where they cannot be written, the position, the list for ids, and what the five lists held before
-   a call. */
-static struct area lists[LISTS], shown[LISTS], position, listed;
+/* The five lists, the same where they cannot be written, the position, the list for ids, the three results of a check, and
+   what the five lists held before a call. */
+static struct area lists[LISTS], shown[LISTS], position, listed, told[3];
 static char *before[LISTS];
 static uint64_t numbers[GEMLAB_SHEET_NUMBERS];
 static double floats[GEMLAB_SHEET_FLOATS];
@@ -110,6 +110,16 @@ static uint64_t strike(struct library *l, uint64_t id, uint64_t *removed)
     uint64_t number = gemlab_grid_search_strike(numbers, GEMLAB_SHEET_NUMBERS, floats, GEMLAB_SHEET_FLOATS,
                                                 l->list[0], l->len[0], l->list[1], l->len[1], l->list[2], l->len[2],
                                                 l->list[3], l->len[3], l->list[4], l->len[4], &l->used, id, removed);
+    calls++;
+    refusals[number]++;
+    return number;
+}
+
+static uint64_t check(const struct library *l, uint64_t *broken, uint64_t *row, uint64_t *visited)
+{
+    uint64_t number = gemlab_grid_search_check(numbers, GEMLAB_SHEET_NUMBERS, floats, GEMLAB_SHEET_FLOATS,
+                                               l->shown[0], l->len[0], l->shown[1], l->len[1], l->shown[2], l->len[2],
+                                               l->shown[3], l->len[3], l->shown[4], l->len[4], l->used, broken, row, visited);
     calls++;
     refusals[number]++;
     return number;
@@ -272,6 +282,129 @@ static void strike_on(size_t dim, size_t len, uint64_t used, int at_end, uint64_
     }
 }
 
+/* A check of a library whose lowest bad row this is, or that has none where it is the used count: whether it tells that, and
+   whether a search refuses the library where a row is told. */
+static void check_tells(size_t dim, const struct library *library, int at_end, uint64_t bad)
+{
+    static const double at[3] = {97.5, 97.5, 97.5};
+    uint64_t *broken = entries(&told[0], 1, at_end), *row = entries(&told[1], 1, at_end), *visited = entries(&told[2], 1, at_end);
+    uint64_t number, used = library->used, wanted = expected(library->len[0], used, 0), found = 2, id = 5;
+    int good;
+
+    *broken = 2;
+    *row = 5;
+    *visited = 9;
+    number = check(library, broken, row, visited);
+    if (number != 0) {
+        good = *broken == 2 && *row == 5 && *visited == 9;
+    } else if (bad < used) {
+        good = *broken == 1 && *row == bad && *visited == bad + 1;
+    } else {
+        good = *broken == 0 && *row == 5 && *visited == used;
+    }
+    if (number != wanted || !good) {
+        fail("check", dim, library->len[0], used, number);
+    }
+    if (wanted == GEMLAB_DONE && bad < used) {
+        wanted = GEMLAB_DAMAGED;
+    }
+    number = search(library, at, dim, &found, &id);
+    if (number != wanted) {
+        fail("search after a check", dim, library->len[0], used, number);
+    }
+}
+
+/* One row: its entry in each of the lists. */
+struct row {
+    uint64_t entry[LISTS];
+};
+
+static struct row get(const struct library *library, uint64_t i)
+{
+    struct row row;
+    size_t j;
+
+    for (j = 0; j < LISTS; j++) {
+        memcpy(&row.entry[j], (char *)library->list[j] + 8 * i, 8);
+    }
+    return row;
+}
+
+static void set(const struct library *library, uint64_t i, struct row row)
+{
+    size_t j;
+
+    for (j = 0; j < LISTS; j++) {
+        memcpy((char *)library->list[j] + 8 * i, &row.entry[j], 8);
+    }
+}
+
+/* Checks with row i made bad in every way, one after the other, and with entries there that are just good. */
+static void check_row(size_t dim, const struct library *library, int at_end, uint64_t i)
+{
+    static const struct {
+        size_t list;
+        uint64_t entry;
+        int bad[2]; /* in 2D and in 3D */
+    } ways[] = {
+        {0, UINT64_MAX, {1, 1}},
+        {2, UINT64_C(0x4130000000000000), {0, 0}}, /* 1,048,576, and the next float */
+        {2, UINT64_C(0x4130000000000001), {1, 1}},
+        {3, UINT64_C(0xc130000000000000), {0, 0}}, /* the same below 0 */
+        {3, UINT64_C(0xc130000000000001), {1, 1}},
+        {3, UINT64_C(0x7ff0000000000000), {1, 1}}, /* infinite */
+        {4, UNREAD, {1, 1}},
+        {4, UINT64_C(0x8000000000000000), {1, 0}}, /* -0 */
+        {4, UINT64_C(0x4130000000000000), {1, 0}},
+    };
+    uint64_t used = library->used, containers = numbers[5] * numbers[6] * numbers[7];
+    struct row was = get(library, i), row;
+    size_t j;
+
+    for (j = 0; j < sizeof ways / sizeof ways[0]; j++) {
+        row = was;
+        row.entry[ways[j].list] = ways[j].entry;
+        set(library, i, row);
+        check_tells(dim, library, at_end, ways[j].bad[dim - 2] ? i : used);
+    }
+    row = was;
+    row.entry[0] = containers;
+    set(library, i, row);
+    check_tells(dim, library, at_end, i);
+    /* the last container: the next row is not above this one */
+    row.entry[0] = containers - 1;
+    set(library, i, row);
+    check_tells(dim, library, at_end, i + 1);
+    if (i > 0) {
+        struct row before_it = get(library, i - 1);
+
+        /* the row before it twice, and the two exchanged */
+        set(library, i, before_it);
+        check_tells(dim, library, at_end, i);
+        set(library, i - 1, was);
+        check_tells(dim, library, at_end, i);
+        set(library, i - 1, before_it);
+    }
+    set(library, i, was);
+}
+
+static void check_on(size_t dim, size_t len, uint64_t used, int at_end)
+{
+    struct library library = fill(len, used, at_end);
+    uint64_t i;
+
+    check_tells(dim, &library, at_end, used);
+    if (expected(len, used, 0) != GEMLAB_DONE) {
+        return;
+    }
+    for (i = 0; i < used; i++) {
+        /* every row of a short library that is full, and else the first, one in the middle and the last */
+        if ((used == len && len <= SHORT) || i == 0 || i == used / 2 || i + 1 == used) {
+            check_row(dim, &library, at_end, i);
+        }
+    }
+}
+
 /* One of the five lists is a row shorter. */
 static void unequal(size_t dim, size_t len, uint64_t used, int at_end)
 {
@@ -283,7 +416,7 @@ static void unequal(size_t dim, size_t len, uint64_t used, int at_end)
     }
     for (j = 0; j < LISTS; j++) {
         struct library library = fill(len, used, at_end);
-        uint64_t number, found = 2, id = 5, count = 9, one = 3, removed = 9;
+        uint64_t number, found = 2, id = 5, count = 9, one = 3, removed = 9, broken = 2, row = 5, visited = 9;
         uint64_t wanted = len > MOST ? GEMLAB_TOO_LONG : GEMLAB_DAMAGED;
 
         library.len[j] = len - 1;
@@ -299,6 +432,10 @@ static void unequal(size_t dim, size_t len, uint64_t used, int at_end)
         number = strike(&library, 0, &removed);
         if (number != wanted || !kept(&library, 0) || library.used != used || removed != 9) {
             fail("strike, unequal", dim, len, used, number);
+        }
+        number = check(&library, &broken, &row, &visited);
+        if (number != wanted || broken != 2 || row != 5 || visited != 9) {
+            fail("check, unequal", dim, len, used, number);
         }
         number = search(&library, x, dim, &found, &id);
         if (number != wanted || !kept(&library, 0) || found != 2 || id != 5) {
@@ -330,6 +467,7 @@ static void one_length(size_t dim, size_t len, uint64_t used)
         if (dim == 3 || used <= CONTAINERS) {
             strike_on(dim, len, used, at_end, 1, 0);
         }
+        check_on(dim, len, used, at_end);
         if (len > 0) {
             unequal(dim, len, used, at_end);
         }
@@ -351,6 +489,9 @@ int main(void)
     }
     position = make_area(3 * 8);
     listed = make_area(8);
+    for (i = 0; i < 3; i++) {
+        told[i] = make_area(8);
+    }
     for (dim = 2; dim <= 3; dim++) {
         const double low[3] = {0, 0, 0}, high[3] = {100, 100, 100};
         uint64_t number = gemlab_grid_search_new(low, dim, high, dim, 1, 100, 1, 1.0 / 512, 1, 0,
