@@ -44,7 +44,7 @@ struct own {
     double xs[MOST], ys[MOST], zs[MOST];
     uint64_t numbers[GEMLAB_SHEET_NUMBERS];
     double floats[GEMLAB_SHEET_FLOATS];
-    uint64_t used, found, id, count, removed, returned;
+    uint64_t used, found, id, count, removed, broken, row, visited, returned;
     double distance, zeta[4];
 };
 static struct own *owns[THREADS];
@@ -120,6 +120,32 @@ static void strike_2d(struct own *o)
 static void strike_3d(struct own *o)
 {
     strike_on(o, 3);
+}
+
+/* A full library with these keys. */
+static void check_on(struct own *o, size_t dim, const uint64_t *its_keys)
+{
+    o->returned = gemlab_grid_search_check(numbers[dim - 2], GEMLAB_SHEET_NUMBERS, floats[dim - 2], GEMLAB_SHEET_FLOATS,
+                                           its_keys, MOST, ids, MOST, xs, MOST, ys, MOST, zs, MOST, MOST, &o->broken, &o->row,
+                                           &o->visited);
+}
+
+static void check_2d(struct own *o)
+{
+    check_on(o, 2, keys);
+}
+
+static void check_3d(struct own *o)
+{
+    check_on(o, 3, keys);
+}
+
+/* The row in the middle has the key of the one before it, and all rows are of one mark. */
+static void check_bad(struct own *o)
+{
+    memcpy(o->keys, keys, sizeof keys);
+    o->keys[MOST / 2]--;
+    check_on(o, 3, o->keys);
 }
 
 static void search_3d(struct own *o)
@@ -240,6 +266,9 @@ static const struct call {
     {"an insertion in 3D", insert_3d, GEMLAB_STACK},
     {"a striking in 2D", strike_2d, GEMLAB_STACK},
     {"a striking in 3D", strike_3d, GEMLAB_STACK},
+    {"a check in 2D", check_2d, GEMLAB_STACK},
+    {"a check in 3D", check_3d, GEMLAB_STACK},
+    {"a check that tells a row", check_bad, GEMLAB_STACK},
     {"a search", search_3d, GEMLAB_STACK},
     {"a listing of 65,536 rows of which none counts", list_none, GEMLAB_STACK},
     {"a listing on a line in 2D", list_line, GEMLAB_STACK},
@@ -325,9 +354,9 @@ static int tried(const struct call *call, int measure)
         most = depth(&jobs[i]) > most ? depth(&jobs[i]) : most;
         free_area(&jobs[i].stack);
     }
-    printf("%s: returned %" PRIu64 ", found %" PRIu64 ", listed %" PRIu64 ", removed %" PRIu64
+    printf("%s: returned %" PRIu64 ", found %" PRIu64 ", listed %" PRIu64 ", removed %" PRIu64 ", visited %" PRIu64
            ", on %d threads with %zu bytes left", call->name, owns[0]->returned, owns[0]->found, owns[0]->count,
-           owns[0]->removed, THREADS, call->stack);
+           owns[0]->removed, owns[0]->visited, THREADS, call->stack);
     if (measure) {
         printf(", took %zu", most);
     }
