@@ -92,6 +92,6 @@ pub const ROWS: usize = 65536;
 
 pub use cells::{CellIndex, Mesh};
 pub use distances::{point_circle_distance, point_cylinder_distance, point_line_distance, point_point_distance};
-pub use library::{Filter, Library, Place};
+pub use library::{Check, Filter, Library, Place};
 pub use refusal::Refusal;
 pub use sheet::Sheet;

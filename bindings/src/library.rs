@@ -4,6 +4,7 @@ use crate::{Refusal, Sheet, ROWS};
 /// Marks filed in the containers of a sheet: a row for each container and id.
 ///
 /// The rows are plain data of the caller's: every call checks them (24, 13), and works in the space that they have.
+/// [`Library::check`] tells which row is bad.
 #[derive(Clone, Debug, Default, PartialEq)]
 pub struct Library {
     /// The container of each row; the rows in use are in strict order of key and then id.
@@ -68,6 +69,15 @@ pub enum Filter {
         /// The high end; below `low`, nothing is kept.
         high: f64,
     },
+}
+
+/// What a check of a library tells.
+#[derive(Clone, Copy, Debug, PartialEq, Eq)]
+pub struct Check {
+    /// The lowest row that is bad, counted from 0, or none.
+    pub bad: Option<u64>,
+    /// How many rows were visited: all in use, or those up to the bad one and that one.
+    pub visited: u64,
 }
 
 /// A call of C on a sheet and a library's lists, by pointers that may be written or not, and what it takes after them.
@@ -140,6 +150,21 @@ impl Library {
         let number =
             unsafe { on_lists!(gemlab_grid_search_strike, sheet, self, as_mut_ptr, &mut self.used, id, &mut removed) };
         Refusal::judge(number).map(|()| removed)
+    }
+
+    /// The lowest bad row, by one walk over the rows in use that ends there. A row is bad where its key is not below the
+    /// number of containers, a coordinate is not finite or past its limit, in 2D the third one is not +0, or the row is
+    /// not above the one before it by key and then id. Every other call is refused with 13 exactly where this one is
+    /// refused with 13 or tells a row.
+    ///
+    /// Refusals: 24, 13 (a damaged sheet, lists of unequal length, a count above them).
+    pub fn check(&self, sheet: &Sheet) -> Result<Check, Refusal> {
+        let (mut broken, mut row, mut visited) = (0, 0, 0);
+        // SAFETY: each list is an array's or a vector's pointer and length; what is written are three locals.
+        let number = unsafe {
+            on_lists!(gemlab_grid_search_check, sheet, self, as_ptr, self.used, &mut broken, &mut row, &mut visited)
+        };
+        Refusal::judge(number).map(|()| Check { bad: (broken == 1).then_some(row), visited })
     }
 
     /// The mark at `x`: of those in the container of `x` that are near it, within the sheet's `tol_dist`, the id with the
