@@ -1,6 +1,6 @@
 //! What the header says besides the meaning of each call: names, how long lists have to be, threads and stack.
 
-use hrbotaj::{CellIndex, Filter, Library, Mesh, Place, Refusal, Sheet, ROWS, STACK, STACK_LISTING};
+use hrbotaj::{CellIndex, Check, Filter, Library, Mesh, Place, Refusal, Sheet, ROWS, STACK, STACK_LISTING};
 use std::thread;
 
 /// The names that the header defines as numbers, without `GEMLAB_`.
@@ -103,6 +103,107 @@ fn the_rows_of_other_marks_close_up() {
     assert_eq!(library.search(&sheet, &[3.5, 1.5]), Ok(Some(7)));
 }
 
+/// A sheet and a library of three marks: two in one container, and one where containers meet. Past its rows stands what no
+/// row may hold.
+fn three_marks(ndim: usize) -> (Sheet, Library) {
+    let sheet = Sheet::new(&vec![0.0; ndim], &vec![8.0; ndim], Some(8), None, Some(0.0)).unwrap();
+    let mut library = Library::with_space(32);
+    library.keys.fill(u64::MAX);
+    library.xs.fill(f64::NAN);
+    for (id, x) in [(9, 0.5), (4, 0.5), (7, 2.0)] {
+        library.insert(&sheet, id, &vec![x; ndim]).unwrap();
+    }
+    (sheet, library)
+}
+
+/// What a check tells. Every other call has to refuse the library with 13 where a row is told, and only there.
+fn told(sheet: &Sheet, library: &Library) -> Check {
+    let told = library.check(sheet).unwrap();
+    let refusal = told.bad.map(|_| Refusal::DAMAGED);
+    let ndim = sheet.ndim() as usize;
+    let (origin, x) = (vec![0.0; ndim], vec![3.5; ndim]);
+    assert_eq!(library.search(sheet, &x).err(), refusal);
+    assert_eq!(library.list(sheet, Place::Line { a: &origin, b: &x }, Filter::Everything).err(), refusal);
+    let mut own = library.clone();
+    assert_eq!(own.insert(sheet, 9, &x).err(), refusal);
+    assert_eq!(own.strike(sheet, 9).err(), refusal);
+    told
+}
+
+#[test]
+fn a_sound_library_has_no_bad_row() {
+    for ndim in [2, 3] {
+        let (sheet, mut library) = three_marks(ndim);
+        let rows = library.used;
+        for used in 0..=rows {
+            library.used = used;
+            assert_eq!(told(&sheet, &library), Check { bad: None, visited: used });
+        }
+        // entries that are just good
+        let last = rows as usize - 1;
+        library.keys[last] = sheet.ndiv().iter().product::<u64>() - 1;
+        library.ids[last] = u64::MAX;
+        library.xs[last] = 1048576.0;
+        library.ys[last] = -1048576.0;
+        library.zs[last] = if ndim == 2 { 0.0 } else { -0.0 };
+        assert_eq!(told(&sheet, &library), Check { bad: None, visited: rows });
+    }
+    let (sheet, _) = three_marks(2);
+    assert_eq!(Library::default().check(&sheet), Ok(Check { bad: None, visited: 0 }));
+}
+
+/// Makes a row bad.
+type Way = fn(&Sheet, &mut Library, usize);
+
+/// The ways in which a row is bad by itself, and by the row before it.
+fn ways(ndim: usize, row: usize) -> Vec<Way> {
+    let mut ways: Vec<Way> = vec![
+        |s, l, i| l.keys[i] = s.ndiv().iter().product(),
+        |_, l, i| l.xs[i] = f64::NAN,
+        |_, l, i| l.ys[i] = f64::NEG_INFINITY,
+        |_, l, i| l.zs[i] = 1048576f64.next_up(),
+    ];
+    if ndim == 2 {
+        ways.push(|_, l, i| l.zs[i] = -0.0);
+    }
+    if row > 0 {
+        // the same key and id, and the two exchanged
+        ways.push(|_, l, i| (l.keys[i], l.ids[i]) = (l.keys[i - 1], l.ids[i - 1]));
+        ways.push(|_, l, i| {
+            l.keys.swap(i - 1, i);
+            l.ids.swap(i - 1, i);
+        });
+    }
+    ways
+}
+
+#[test]
+fn the_lowest_bad_row_is_told() {
+    for ndim in [2, 3] {
+        let (sheet, good) = three_marks(ndim);
+        for row in 0..good.used as usize {
+            let expected = Check { bad: Some(row as u64), visited: row as u64 + 1 };
+            for make_bad in ways(ndim, row) {
+                let mut library = good.clone();
+                make_bad(&sheet, &mut library, row);
+                assert_eq!(told(&sheet, &library), expected);
+                // past the rows in use it is not looked at
+                library.used = row as u64;
+                assert_eq!(told(&sheet, &library), Check { bad: None, visited: row as u64 });
+                // a row further on is bad too, in whatever way; it goes first, since it may take this row's place
+                for later in row + 1..good.used as usize {
+                    for make_later_bad in ways(ndim, later) {
+                        let mut library = good.clone();
+                        make_later_bad(&sheet, &mut library, later);
+                        make_bad(&sheet, &mut library, row);
+                        assert_eq!(told(&sheet, &library), expected);
+                    }
+                }
+            }
+        }
+    }
+}
+
 #[test]
 fn the_nearer_mark_is_found() {
     for ndim in [2, 3] {
@@ -175,7 +276,9 @@ fn calls_run_in_threads_with_little_stack() {
                 own.used -= 5;
                 assert_eq!(own.insert(&sheet, 9, &[4.0, 4.0]), Ok(()));
                 assert_eq!(own.search(&sheet, &[4.0, 4.0]), Ok(Some(9)));
+                assert_eq!(own.check(&sheet), Ok(Check { bad: None, visited: own.used }));
                 assert_eq!(own.strike(&sheet, 9), Ok(4));
+                assert_eq!(library.check(&sheet), Ok(Check { bad: None, visited: ROWS as u64 }));
                 assert_eq!(library.search(&sheet, &[4.0, 4.0]), Ok(None));
             };
             thread::Builder::new().stack_size(STACK + besides).spawn_scoped(scope, one).unwrap();

@@ -1,11 +1,14 @@
 //! A refused call has changed nothing, and plain data that was changed by hand is refused or searched, never trusted.
 
-use hrbotaj::{CellIndex, Filter, Library, Mesh, Place, Refusal, Sheet};
+use hrbotaj::{CellIndex, Check, Filter, Library, Mesh, Place, Refusal, Sheet};
 
 /// Document 01's sheet S: corners (0, 0) and (8, 4), 8 divisions, tolerance 1/512, border 0.
 fn s() -> Sheet {
     Sheet::new(&[0.0, 0.0], &[8.0, 4.0], Some(8), Some(1.0 / 512.0), Some(0.0)).unwrap()
 }
+
+/// A change of plain data by hand.
+type Change<T> = fn(&mut T);
 
 #[test]
 fn a_refusal_changes_nothing() {
@@ -38,15 +41,23 @@ fn a_refusal_changes_nothing() {
 #[test]
 fn a_changed_sheet_is_damaged() {
     let library = Library::with_space(4);
+    // two rows of one container and id, which are not judged on a sheet that is damaged
+    let bad = Library { used: 2, ..library.clone() };
+    assert_eq!(bad.check(&s()), Ok(Check { bad: Some(1), visited: 2 }));
+    let damaged = |sheet: &Sheet, what: &str, i: usize| {
+        assert_eq!(library.search(sheet, &[1.0, 1.0]), Err(Refusal(13)), "{what} {i}");
+        assert_eq!(library.check(sheet), Err(Refusal(13)), "{what} {i}");
+        assert_eq!(bad.check(sheet), Err(Refusal(13)), "{what} {i}");
+    };
     for i in 0..8 {
         let mut sheet = s();
         sheet.numbers[i] += 1;
-        assert_eq!(library.search(&sheet, &[1.0, 1.0]), Err(Refusal(13)), "number {i}");
+        damaged(&sheet, "number", i);
     }
     for i in 0..17 {
         let mut sheet = s();
         sheet.floats[i] = sheet.floats[i].next_up();
-        assert_eq!(library.search(&sheet, &[1.0, 1.0]), Err(Refusal(13)), "float {i}");
+        damaged(&sheet, "float", i);
     }
 }
 
@@ -54,17 +65,19 @@ fn a_changed_sheet_is_damaged() {
 fn lists_of_any_length_are_judged() {
     let sheet = s();
     let good = Library::with_space(4);
-    let ways: [(fn(&mut Library), u64); 6] = [
-        (|l| l.keys.clear(), 13),
-        (|l| l.zs.push(0.0), 13),
-        (|l| l.used = 5, 13),
-        (|l| l.used = u64::MAX, 13),
-        (|l| l.used = 2, 13), // two rows of one container and id
-        (|l| l.ids.resize(65537, 0), 24),
+    // a check is refused for the same reasons, but for a bad row, which it tells
+    let ways: [(Change<Library>, u64, Option<Check>); 6] = [
+        (|l| l.keys.clear(), 13, None),
+        (|l| l.zs.push(0.0), 13, None),
+        (|l| l.used = 5, 13, None),
+        (|l| l.used = u64::MAX, 13, None),
+        (|l| l.used = 2, 13, Some(Check { bad: Some(1), visited: 2 })), // two rows of one container and id
+        (|l| l.ids.resize(65537, 0), 24, None),
     ];
-    for (change, number) in ways {
+    for (change, number, told) in ways {
         let mut library = good.clone();
         change(&mut library);
+        assert_eq!(library.check(&sheet), told.ok_or(Refusal(number)));
         assert_eq!(library.search(&sheet, &[1.0, 1.0]), Err(Refusal(number)));
         let before = library.clone();
         assert_eq!(library.insert(&sheet, 1, &[1.0, 1.0]), Err(Refusal(number)));
@@ -73,6 +86,11 @@ fn lists_of_any_length_are_judged() {
     }
     assert_eq!(Library::with_space(0).search(&sheet, &[1.0, 1.0]), Ok(None));
     assert_eq!(Library::with_space(65536).search(&sheet, &[]), Err(Refusal(2)));
+    assert_eq!(Library::with_space(65536).check(&sheet), Ok(Check { bad: None, visited: 0 }));
+    // lists that are too long are judged before the sheet
+    let damaged = Sheet { numbers: [0; 8], ..sheet };
+    assert_eq!(Library::with_space(65536).check(&damaged), Err(Refusal(13)));
+    assert_eq!(Library::with_space(65537).check(&damaged), Err(Refusal(24)));
 }
 
 #[test]
@@ -80,7 +98,7 @@ fn an_index_is_judged() {
     let coords = [0.0, 0.0, 4.0, 0.0, 4.0, 4.0, 0.0, 4.0];
     let mesh = Mesh { ndim: 2, coords: &coords, corners: &[0, 1, 2, 0, 2, 3] };
     let good = CellIndex::new(&mesh, None, None, None, None).unwrap();
-    let ways: [(fn(&mut CellIndex), u64); 6] = [
+    let ways: [(Change<CellIndex>, u64); 6] = [
         (|i| i.numbers[0] = 4, 1),
         (|i| i.large.resize(65537, 0), 24),
         (|i| i.numbers[4] = 1 << 40, 13),
