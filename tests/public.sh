@@ -11,7 +11,7 @@ public() {
     cat <<'END'
 geometry point_point_distance point_line_distance point_circle_distance point_cylinder_distance
 grid_search new
-rows insert
+rows insert check
 strike strike
 search search
 listing search_on search_on_place
@@ -149,8 +149,8 @@ $(public)
 END
 others=$(contracts crates/capi/src/*.rt | sed 's/ .*//' | grep -v '^gemlab_' || :)
 shown=$(contracts crates/capi/src/*.rt | grep -c '^gemlab_')
-if [ -n "$others" ] || [ "$(public | sed -n 's/^capi //p' | wc -w)" -ne 11 ] || [ "$shown" -ne 11 ]; then
-    echo "public: capi shows other calls than the eleven of its header: $shown, and $others" && failed=1
+if [ -n "$others" ] || [ "$(public | sed -n 's/^capi //p' | wc -w)" -ne 12 ] || [ "$shown" -ne 12 ]; then
+    echo "public: capi shows other calls than the twelve of its header: $shown, and $others" && failed=1
 fi
 [ "$failed" -eq 0 ] && echo "public: every public call promises something and asks nothing"
 exit $failed
