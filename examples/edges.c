@@ -21,9 +21,9 @@ static void *entries(const struct area *area, size_t n, int at_end)
     return sized_entries(area, n, 8, at_end);
 }
 
-/* The five lists, the same where they cannot be written, the position, the list for ids, the three results of a check, and
-   what the five lists held before a call. */
-static struct area lists[LISTS], shown[LISTS], position, listed, told[3];
+/* The five lists, the same where they cannot be written, the position, the list for ids, the three results of a check, the two
+   lists of a sheet, and what the five lists held before a call. */
+static struct area lists[LISTS], shown[LISTS], position, listed, told[3], sheet[2];
 static char *before[LISTS];
 static uint64_t numbers[GEMLAB_SHEET_NUMBERS];
 static double floats[GEMLAB_SHEET_FLOATS];
@@ -115,14 +115,21 @@ static uint64_t strike(struct library *l, uint64_t id, uint64_t *removed)
     return number;
 }
 
-static uint64_t check(const struct library *l, uint64_t *broken, uint64_t *row, uint64_t *visited)
+/* On a sheet whose lists have these lengths. */
+static uint64_t check_with(const uint64_t *n, size_t n_len, const double *f, size_t f_len, const struct library *l,
+                           uint64_t *broken, uint64_t *row, uint64_t *visited)
 {
-    uint64_t number = gemlab_grid_search_check(numbers, GEMLAB_SHEET_NUMBERS, floats, GEMLAB_SHEET_FLOATS,
-                                               l->shown[0], l->len[0], l->shown[1], l->len[1], l->shown[2], l->len[2],
-                                               l->shown[3], l->len[3], l->shown[4], l->len[4], l->used, broken, row, visited);
+    uint64_t number = gemlab_grid_search_check(n, n_len, f, f_len, l->shown[0], l->len[0], l->shown[1], l->len[1], l->shown[2],
+                                               l->len[2], l->shown[3], l->len[3], l->shown[4], l->len[4], l->used, broken, row,
+                                               visited);
     calls++;
     refusals[number]++;
     return number;
+}
+
+static uint64_t check(const struct library *l, uint64_t *broken, uint64_t *row, uint64_t *visited)
+{
+    return check_with(numbers, GEMLAB_SHEET_NUMBERS, floats, GEMLAB_SHEET_FLOATS, l, broken, row, visited);
 }
 
 static uint64_t search(const struct library *l, const double *x, size_t x_len, uint64_t *found, uint64_t *id)
@@ -405,6 +412,31 @@ static void check_on(size_t dim, size_t len, uint64_t used, int at_end)
     }
 }
 
+/* Checks with sheet lists of every length up to one more than a sheet has. */
+static void check_sheets(size_t dim, int at_end)
+{
+    struct library library = fill(8, 8, at_end);
+    size_t n_len, f_len;
+
+    for (n_len = 0; n_len <= GEMLAB_SHEET_NUMBERS + 1; n_len++) {
+        for (f_len = 0; f_len <= GEMLAB_SHEET_FLOATS + 1; f_len++) {
+            uint64_t *n = entries(&sheet[0], n_len, at_end);
+            double *f = entries(&sheet[1], f_len, at_end);
+            int right = n_len == GEMLAB_SHEET_NUMBERS && f_len == GEMLAB_SHEET_FLOATS;
+            uint64_t number, broken = 2, row = 5, visited = 9;
+
+            memcpy(n, numbers, 8 * (n_len < GEMLAB_SHEET_NUMBERS ? n_len : GEMLAB_SHEET_NUMBERS));
+            memcpy(f, floats, 8 * (f_len < GEMLAB_SHEET_FLOATS ? f_len : GEMLAB_SHEET_FLOATS));
+            number = check_with(n, n_len, f, f_len, &library, &broken, &row, &visited);
+            if (number != (right ? GEMLAB_DONE : GEMLAB_DAMAGED) || broken != (right ? 0 : 2) || row != 5
+                || visited != (right ? 8 : 9)) {
+                printf("check: %zuD, %zu numbers, %zu floats, returned %" PRIu64 "\n", dim, n_len, f_len, number);
+                exit(1);
+            }
+        }
+    }
+}
+
 /* One of the five lists is a row shorter. */
 static void unequal(size_t dim, size_t len, uint64_t used, int at_end)
 {
@@ -492,6 +524,8 @@ int main(void)
     for (i = 0; i < 3; i++) {
         told[i] = make_area(8);
     }
+    sheet[0] = make_area((GEMLAB_SHEET_NUMBERS + 1) * 8);
+    sheet[1] = make_area((GEMLAB_SHEET_FLOATS + 1) * 8);
     for (dim = 2; dim <= 3; dim++) {
         const double low[3] = {0, 0, 0}, high[3] = {100, 100, 100};
         uint64_t number = gemlab_grid_search_new(low, dim, high, dim, 1, 100, 1, 1.0 / 512, 1, 0,
@@ -500,6 +534,8 @@ int main(void)
         if (number != 0) {
             fail("sheet", dim, 0, 0, number);
         }
+        check_sheets(dim, 0);
+        check_sheets(dim, 1);
         for (len = 0; len <= SHORT; len++) {
             for (used = 0; used <= len + 1; used++) {
                 one_length(dim, len, used);
