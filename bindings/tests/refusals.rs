@@ -66,13 +66,18 @@ fn lists_of_any_length_are_judged() {
     let sheet = s();
     let good = Library::with_space(4);
     // a check is refused for the same reasons, but for a bad row, which it tells
-    let ways: [(Change<Library>, u64, Option<Check>); 6] = [
+    let ways: [(Change<Library>, u64, Option<Check>); 10] = [
         (|l| l.keys.clear(), 13, None),
         (|l| l.zs.push(0.0), 13, None),
         (|l| l.used = 5, 13, None),
         (|l| l.used = u64::MAX, 13, None),
         (|l| l.used = 2, 13, Some(Check { bad: Some(1), visited: 2 })), // two rows of one container and id
+        // each list by itself
+        (|l| l.keys.resize(65537, 0), 24, None),
         (|l| l.ids.resize(65537, 0), 24, None),
+        (|l| l.xs.resize(65537, 0.0), 24, None),
+        (|l| l.ys.resize(65537, 0.0), 24, None),
+        (|l| l.zs.resize(65537, 0.0), 24, None),
     ];
     for (change, number, told) in ways {
         let mut library = good.clone();
