@@ -11,7 +11,7 @@ public() {
     cat <<'END'
 geometry point_point_distance point_line_distance point_circle_distance point_cylinder_distance
 grid_search new
-rows insert check
+rows insert check_library
 strike strike
 search search
 listing search_on search_on_place
