@@ -5,8 +5,9 @@
 //! from a hash map in any order is stored as the set of what it may give, and what it gives is checked to be in it; of near
 //! ids the one that request b of document 02 picks comes first.
 //! Every input is within the limits of document 01, and breaks at most one rule: only refusals that gemlab has are here,
-//! and 26, for an id that has no row.
+//! and 26, for an id that has no row. Checks, between the others, are those of checks.rs.
 
+use crate::checks::{store_check, store_checks, store_refusal};
 use crate::choice::{chosen, square};
 use crate::random::Random;
 use crate::words::{three, Words};
@@ -392,6 +393,7 @@ fn store_clearance(w: &mut Words, r: &mut Random, library: &mut Library, marks: 
         store_strike(w, library, row.id);
     }
     store_table(w, &library.grid);
+    store_check(w, &library.grid);
     let x = r.pick(marks);
     store_search(w, &library.grid, x);
     Place { kind: 0, a: x.clone(), b: x.clone(), number: 0.0 }.store(w, &library.grid, None);
@@ -493,7 +495,7 @@ fn pair(r: &mut Random, kind: usize, pole: &[f64]) -> [Vec<f64>; 2] {
 
 /// A library of pairs, each in a container of its own, and searches at their poles, at them and between them; then one of some pairs is
 /// struck off.
-fn store_pairs(w: &mut Words, r: &mut Random, ndim: usize) {
+fn store_pairs(w: &mut Words, r: &mut Random, ndim: usize) -> Library {
     let (low, high) = (vec![0.0; ndim], vec![8.0; ndim]);
     let settings = Settings { low, high, ndiv: Some(8), tolerance: None, border: Some(0.0) };
     let grid = settings.store(w).unwrap();
@@ -529,6 +531,7 @@ fn store_pairs(w: &mut Words, r: &mut Random, ndim: usize) {
         }
     }
     store_table(w, &library.grid);
+    library
 }
 
 pub fn libraries() -> Words {
@@ -536,16 +539,21 @@ pub fn libraries() -> Words {
     let mut r = Random::new(11);
     let mut s = Random::new(12);
     let mut p = Random::new(13);
+    let mut c = Random::new(14);
     refused_sheets(&mut w);
+    store_refusal(&mut w);
     for i in 0..LIBRARIES {
         let (mut library, marks) = store_library(&mut w, &mut r, 2 + i % 2);
+        store_checks(&mut w, &mut c, &library.grid);
         store_strikings(&mut w, &mut s, &mut library, &marks);
+        store_checks(&mut w, &mut c, &library.grid);
         if i < 4 {
             store_clearance(&mut w, &mut s, &mut library, &marks);
         }
     }
     for i in 0..PAIRED {
-        store_pairs(&mut w, &mut p, 2 + i % 2);
+        let library = store_pairs(&mut w, &mut p, 2 + i % 2);
+        store_checks(&mut w, &mut c, &library.grid);
     }
     store_distances(&mut w, &mut r);
     w.word(0);
@@ -555,6 +563,17 @@ pub fn libraries() -> Words {
         ("equal least distances and one that is not", 40),
         ("the nearest is not the lowest", 300),
         ("equal distances, the lower id with the larger square", 8),
+        ("a key past the containers", 40),
+        ("a coordinate past its limit", 100),
+        ("a third coordinate in 2D", 12),
+        ("a key below the one before", 25),
+        ("an id not above the one before", 30),
+        ("no bad row", 250),
+        ("no bad row, one entry changed", 150),
+        ("an entry past the rows changed", 20),
+        ("the first row is bad", 40),
+        ("the last row is bad", 40),
+        ("the row after the changed one is bad", 25),
     ] {
         assert!(w.met[kind] >= enough, "{kind}: {} in the sample", w.met[kind]);
     }

@@ -5,6 +5,7 @@
 //! `stored check` says whether each file is what gemlab gives today; `stored write` writes them.
 
 mod catalogue;
+mod checks;
 #[path = "../src/choice.rs"]
 mod choice;
 mod libraries;

@@ -1,5 +1,6 @@
 //! The files of the program `replay`.
 
+use crate::checks::CHECK;
 use crate::libraries::{libraries, DISTANCE, INSERT, LIST, SEARCH, SHEET, STRIKE, TABLE};
 use crate::meshes::{meshes, BUILD, PROBE};
 
@@ -18,6 +19,7 @@ pub fn text() -> Vec<u8> {
         ("sheets", SHEET),
         ("insertions", INSERT),
         ("strikings", STRIKE),
+        ("checks", CHECK),
         ("searches", SEARCH),
         ("listings", LIST),
         ("tables", TABLE),

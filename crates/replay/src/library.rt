@@ -1,4 +1,5 @@
 // Sheets, insertions, strikings, searches, listings, tables and distances.
+use crate::checks;
 use crate::compared;
 
 // What a result holds before a call that may write it.
@@ -319,6 +320,9 @@ fn entry(
 ) -> bool {
     if kind <= 2 || kind == 10 {
         return change(fd, kind, numbers, floats, keys, ids, xs, ys, zs, used);
+    }
+    if kind == 11 {
+        return checks::check(fd, numbers, floats, keys, ids, xs, ys, zs, *used);
     }
     question(fd, kind, numbers, floats, keys, ids, xs, ys, zs, *used)
 }

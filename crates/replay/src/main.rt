@@ -1,5 +1,6 @@
 // Goes through a sample of gemlab's answers (data/, laid out as docs/STORED.md says): makes each call, compares what comes
 // back with what gemlab gave, and tells how many calls there were and how many differ.
+mod checks;
 mod compared;
 mod library;
 mod mesh;
@@ -22,6 +23,7 @@ fn main() {
     tell(b"sheets: ", &counts, 1);
     tell(b"insertions: ", &counts, 2);
     tell(b"strikings: ", &counts, 10);
+    tell(b"checks: ", &counts, 11);
     tell(b"searches: ", &counts, 3);
     tell(b"listings: ", &counts, 4);
     tell(b"tables: ", &counts, 5);
