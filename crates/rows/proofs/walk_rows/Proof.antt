@@ -34,14 +34,14 @@ returns c =
     let a = l .before .before .before .before .before .before in
     let good = goodIn (a .args .ndim) (a .args .count) in
     let bad = sym (c .before .is-good .ensures) ∙ not-true _ (c .if1 .taken) in
-    tells-bad good _ (l .loop .visited) _ (stops good _ (l .loop .visited) (slotBefore (l .loop .bound) (l .loop .last)) (l .loop .inv .1) (c .before .before .before .before .before .before .before .loop-test .taken) bad) refl
+    tells-bad good _ (l .loop .visited) _ (stops good _ (l .loop .visited) (slotBefore (l .loop .bound) (l .loop .last)) (l .loop .inv .1) (omega arith) bad) refl
 
 add-bound : tie.Need-add-bound Inv-loop μ-loop
 add-bound c =
     let l = c .before .before .before .before .before .before .before .before in
     let a = l .before .before .before .before .before .before in
-    let passes = sym (c .before .is-good .ensures) ∙ not-false _ (c .if1 .left) in
-    omega (arith, low-key (a .args .count) (a .args .ndim) (rowAt (library (a .args .keys .now) (a .args .ids .now) (a .args .xs .now) (a .args .ys .now) (a .args .zs .now) (a .args .used)) (l .loop .visited)) _ passes, a .pre)
+    let low = sym (c .before .is-good .ensures) ∙ not-false _ (c .if1 .left) in
+    omega (arith, low-key (a .args .count) (a .args .ndim) (rowAt (library (a .args .keys .now) (a .args .ids .now) (a .args .xs .now) (a .args .ys .now) (a .args .zs .now) (a .args .used)) (l .loop .visited)) _ low, a .pre)
 
 loop-again : tie.Need-loop-again Inv-loop μ-loop
 loop-again c =
@@ -49,7 +49,7 @@ loop-again c =
     let a = l .before .before .before .before .before .before in
     let good = goodIn (a .args .ndim) (a .args .count) in
     let passes = sym (c .before .is-good .ensures) ∙ not-false _ (c .if1 .left) in
-    let on = goes-on good _ (l .loop .visited) (slotBefore (l .loop .bound) (l .loop .last)) (l .loop .inv .1) (c .before .before .before .before .before .before .before .loop-test .taken) passes in
+    let on = goes-on good _ (l .loop .visited) (slotBefore (l .loop .bound) (l .loop .last)) (l .loop .inv .1) (omega arith) passes in
     (omega arith, on ∙ ap (λ (p : Option Slot). badFrom good (l .loop .visited + 1) p (drop (l .loop .visited + 1) (table (library (a .args .keys .now) (a .args .ids .now) (a .args .xs .now) (a .args .ys .now) (a .args .zs .now) (a .args .used))))) (sym (kept _ _)))
 
 returns-2 : tie.Need-returns-2 Inv-loop μ-loop
@@ -57,7 +57,7 @@ returns-2 c =
     let l = c .before in
     let a = l .before .before .before .before .before .before in
     let good = goodIn (a .args .ndim) (a .args .count) in
-    tells-none good _ (l .loop .visited) (ends good _ (l .loop .visited) (slotBefore (l .loop .bound) (l .loop .last)) (l .loop .inv .1) (c .loop-test .left)) (omega arith)
+    tells-none good _ (l .loop .visited) (ends good _ (l .loop .visited) (slotBefore (l .loop .bound) (l .loop .last)) (l .loop .inv .1) (omega arith)) (omega arith)
 
 pub walk-rows-spec : {M : Type 1} → statement M
 walk-rows-spec =
