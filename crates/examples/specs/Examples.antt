@@ -4,8 +4,8 @@
 use Prim.Native.Nat.{ℕ}
 use mathlib.Core.Path.{_≡_}
 use mathlib.Core.Bool.{Bool, true, false}
-use mathlib.Core.Option.{Option, none, some}
-use mathlib.Core.List.{List, [], _∷_, map}
+use mathlib.Core.Option.{Option, none, some, Option·elim}
+use mathlib.Core.List.{List, [], _∷_, _++_, map}
 use lib.ListN.{replicate}
 use lib.IntN.{pos, negsuc}
 use lib.Ieee.{Float, nan, inf, fin, lt}
@@ -25,6 +25,7 @@ use Rattle.grid_search.specs.Examples.{S, lowOfS, highOfS}
 use Rattle.table.specs.Rows.{keyIn}
 use Rattle.table.specs.Library.{Library, table}
 use Rattle.rows.specs.Turn.{Turn}
+use Rattle.rows.specs.Check.{Walk, checking}
 use Rattle.rows.specs.Insert.{containerOf, insertion}
 use Rattle.strike.specs.Strike.{striking}
 use Rattle.search.specs.Search.{searchAnswer}
@@ -54,6 +55,12 @@ unfoldable pub ofSearch : Answer (Option ℕ) → Stated
 ofSearch (refused n) = refusal n
 ofSearch (success none) = nothing
 ofSearch (success (some i)) = number i
+
+-- of a check: the bad row and the rows visited, or the rows visited alone
+unfoldable pub ofCheck : Answer Walk → Stated
+unfolding Option·elim
+ofCheck (refused n) = refusal n
+ofCheck (success w) = numbers (Option·elim (w .bad) [] (λ (i : ℕ). i ∷ []) ++ w .visited ∷ [])
 
 unfoldable pub ofDistance : Answer Float → Stated
 ofDistance (refused n) = refusal n
@@ -179,6 +186,19 @@ unfoldable pub stacked : ℕ → Library
 unfolding with room
 stacked n = with 9 twoAndHalf oneAndHalf (with 2 twoAndHalf oneAndHalf (with 6 twoAndHalf oneAndHalf (room n)))
 
+-- four rows of 7 at (2, 1), with these keys and third coordinates
+unfoldable pub shelf : List ℕ → List Float → Library
+shelf keys zs = record { keys = keys; ids = replicate 4 7; xs = replicate 4 (pow2 1); ys = replicate 4 (pow2 0); zs = zs; used = 4 }
+
+-- its rows, with no third coordinate but +0
+unfoldable pub flat : List ℕ → Library
+unfolding shelf
+flat keys = shelf keys (replicate 4 zeroF)
+
+unfoldable pub check : Library → Stated
+unfolding ofCheck checking S
+check l = ofCheck (checking S l)
+
 -- from (2.5, 1.5): the square of the distance, and the distance
 unfoldable pub squareTo : Float → Float → Float
 unfolding pointSquare
@@ -205,7 +225,7 @@ line g s = record { given = g; stated = s }
 
 unfoldable pub lines : List Line
 unfolding line sqrtOf containerOf S find seven moved eight sixThree retire sevenGone closed holding withTolerance pointCircleAnswer ofDistance ofChange keysOf inTriangle inside
-    anchors sides equalRoots stacked squareTo distanceTo lt
+    anchors sides equalRoots stacked squareTo distanceTo lt check flat shelf
 lines =
     -- S has divisions 8 and 4, and side 1
     line (numbers (counts 2 (S .ndiv))) (numbers (8 ∷ 4 ∷ []))
@@ -270,6 +290,21 @@ lines =
     -- one position under several ids: the lowest, on it and beside it
     ∷ line (find (stacked 4) twoAndHalf oneAndHalf) (number 2)
     ∷ line (find (stacked 4) aboveTwoAndHalf oneAndHalf) (number 2)
+    -- Document 02, request c: no row of 7 at (2, 1) is bad, and 4 are visited; without rows none is
+    ∷ line (check (flat (1 ∷ 2 ∷ 9 ∷ 10 ∷ []))) (numbers (4 ∷ []))
+    ∷ line (check (room 8)) (numbers (0 ∷ []))
+    -- key 2 after key 9, and key 2 twice: the later of the two rows is told, and every other call is 13
+    ∷ line (check (flat (1 ∷ 9 ∷ 2 ∷ 10 ∷ []))) (numbers (2 ∷ 3 ∷ []))
+    ∷ line (check (flat (1 ∷ 2 ∷ 2 ∷ 10 ∷ []))) (numbers (2 ∷ 3 ∷ []))
+    ∷ line (find (flat (1 ∷ 9 ∷ 2 ∷ 10 ∷ [])) (pow2 1) (pow2 0)) (refusal 13)
+    -- S has 32 containers: keys 31 and 32 in the last row
+    ∷ line (check (flat (1 ∷ 2 ∷ 9 ∷ 31 ∷ []))) (numbers (4 ∷ []))
+    ∷ line (check (flat (1 ∷ 2 ∷ 9 ∷ 32 ∷ []))) (numbers (3 ∷ 4 ∷ []))
+    -- -0 in row 1, and a bad key after it or before it: the lower row is told
+    ∷ line (check (shelf (1 ∷ 2 ∷ 9 ∷ 8 ∷ []) (zeroF ∷ fin true 0 (pos 0) ∷ zeroF ∷ zeroF ∷ []))) (numbers (1 ∷ 2 ∷ []))
+    ∷ line (check (shelf (32 ∷ 2 ∷ 9 ∷ 10 ∷ []) (zeroF ∷ fin true 0 (pos 0) ∷ zeroF ∷ zeroF ∷ []))) (numbers (0 ∷ 1 ∷ []))
+    -- more rows in use than there is room for
+    ∷ line (check (holding 2 3)) (refusal 13)
     ∷ []
 
 -- each line gives what it states
@@ -281,7 +316,8 @@ Agree (l ∷ ls) = (l .given ≡ l .stated) × Agree ls
 
 -- four rows, all in use: 7 at (2, 1)
 unfoldable pub fourRows : Library
-fourRows = record { keys = 1 ∷ 2 ∷ 9 ∷ 10 ∷ []; ids = replicate 4 7; xs = replicate 4 (pow2 1); ys = replicate 4 (pow2 0); zs = replicate 4 zeroF; used = 4 }
+unfolding flat
+fourRows = flat (1 ∷ 2 ∷ 9 ∷ 10 ∷ [])
 
 -- 7 at (2, 1) once more
 unfoldable pub full : Turn ℕ
