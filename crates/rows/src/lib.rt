@@ -89,8 +89,8 @@ fn is_third(ndim: usize, z: f64) -> bool
     }
 }
 
-// Whether a row is good by itself and stands above the one before it, which is told as `is_above` has it. Every test is made,
-// with no branch between them: in this order the compiler makes the fewest instructions of them.
+// Whether a row is good by itself and stands above the one before it, which is told as `is_above` has it. The tests are all
+// made, in the order of which the compiler makes the fewest instructions.
 fn is_good(
     ndim: usize,
     count: u64,
@@ -168,7 +168,7 @@ pub fn check_library(
         return Walked::Refused(13);
     }
     let count = grid::container_count(sheet.ndim, sheet.ndiv);
-    // a loop for each dimension, of one text: with the dimension told outside, none of the tests is made twice
+    // the dimension as a number: of one text the compiler then makes two loops, and no turn of them asks for the dimension
     if sheet.ndim == 2 {
         walk_rows(2, count, keys, ids, xs, ys, zs, used)
     } else {
