@@ -179,14 +179,20 @@ impl Lent {
             && same(f[16], g.radius)
     }
 
-    /// What turns a library away: 24 or 13, read from document 01.
-    pub(crate) fn fault(&self) -> Option<u64> {
+    /// What turns a library away before its rows are looked at: 24, or 13 for the sheet, the lengths of the lists or the used count.
+    pub(crate) fn layout_fault(&self) -> Option<u64> {
         let lengths = [self.keys.len(), self.ids.len(), self.xs.len(), self.ys.len(), self.zs.len()];
         if lengths.iter().any(|n| *n > MOST_ROWS) {
             return Some(24);
         }
-        if !self.is_sheet() || lengths.iter().any(|n| *n != lengths[0]) || self.used > lengths[0] as u64 {
-            return Some(13);
+        let fits = self.is_sheet() && self.is_even() && self.used <= lengths[0] as u64;
+        (!fits).then_some(13)
+    }
+
+    /// What turns a library away: 24 or 13, read from document 01.
+    pub(crate) fn fault(&self) -> Option<u64> {
+        if let Some(number) = self.layout_fault() {
+            return Some(number);
         }
         let ndim = self.numbers[0] as usize;
         let containers: u64 = self.numbers[5..5 + ndim].iter().product();
