@@ -8,7 +8,7 @@ use crate::near::{around, down, same, up};
 use crate::random::Random;
 use crate::rows::{Settings, Source, World, LIMIT, MOST_ROWS};
 use crate::strike::Story;
-use crate::tally::Tally;
+use crate::tally::{Kinds, Tally};
 use crate::timing::{burst, in_turn};
 use gemlab::geometry::point_point_distance;
 use std::collections::{BTreeMap, BTreeSet};
@@ -42,12 +42,12 @@ fn first_by<K: PartialOrd>(rows: &[&Row], order: impl Fn(&Row) -> K) -> Option<u
     rows.iter().copied().reduce(|a, b| if order(b) < order(a) { b } else { a }).map(|row| row.id)
 }
 
-/// How many searches were of each kind, with the least number that is asked for.
+/// How many searches were made, in how many gemlab was asked anew, and how many were of each kind.
 #[derive(Default)]
 struct Met {
     searches: u64,
     anew: u64,
-    kinds: Vec<(&'static str, u64, u64)>,
+    kinds: Kinds,
 }
 
 impl Met {
@@ -95,13 +95,8 @@ impl Met {
             ("another than that of the least square", picked != by_squares, 5_000),
             ("another than the nearest in the plane", picked != in_plane, 20_000),
         ];
-        if self.kinds.is_empty() {
-            self.kinds = kinds.map(|(kind, _, enough)| (kind, 0, enough)).to_vec();
-        }
         self.searches += 1;
-        for (kind, (_, is, _)) in self.kinds.iter_mut().zip(kinds) {
-            kind.1 += is as u64;
-        }
+        self.kinds.count(&kinds);
     }
 
     /// A search: nothing lent changes, and what is found is what is due.
@@ -572,9 +567,7 @@ pub fn compare(t: &mut Tally) {
     pairs(&mut met, t);
     crowds(&mut met, t);
     written(&mut met, t);
-    for (kind, count, enough) in met.kinds {
-        t.occurs(kind, count, enough);
-    }
+    t.occur(met.kinds);
     t.occurs("gemlab asked anew", met.anew, 3_000);
     t.met("search", &[0, 2, 3, 11]);
     t.met("insert", &[0, 3, 11, 12]);

@@ -75,6 +75,13 @@ impl Tally {
         self.check(count >= enough, || format!("{kind}: {count}, and {enough} are due"));
     }
 
+    /// At the end: inputs of each kind occurred so often, which has to be enough.
+    pub fn occur(&mut self, kinds: Kinds) {
+        for (kind, count, enough) in kinds.0 {
+            self.occurs(kind, count, enough);
+        }
+    }
+
     /// Says how it went; true where something was compared and nothing differs.
     pub fn report(&self) -> bool {
         for (call, counts) in &self.met {
@@ -88,5 +95,21 @@ impl Tally {
         }
         println!("compare {}: {} results compared, {} differ", self.name, self.compared, self.differ);
         self.compared > 0 && self.differ == 0
+    }
+}
+
+/// How many inputs were of each kind, with the least number that is asked for.
+#[derive(Default)]
+pub struct Kinds(Vec<(&'static str, u64, u64)>);
+
+impl Kinds {
+    /// One input: for each kind whether it is of that kind, and how many are enough. The kinds are the same for every input.
+    pub fn count(&mut self, kinds: &[(&'static str, bool, u64)]) {
+        if self.0.is_empty() {
+            self.0 = kinds.iter().map(|(kind, _, enough)| (*kind, 0, *enough)).collect();
+        }
+        for (kind, (_, is, _)) in self.0.iter_mut().zip(kinds) {
+            kind.1 += *is as u64;
+        }
     }
 }
