@@ -945,6 +945,22 @@ fn time(mut f: impl FnMut(usize) -> u64) -> f64 {
     best
 }
 
+/// A library to measure on, of so much space but for some room, and the positions of its marks, whose ids count up from 0.
+pub(crate) fn filled(ndim: usize, space: usize, r: &mut Random) -> (World, Vec<Vec<f64>>) {
+    const ROOM: usize = 64;
+    let (xmin, xmax) = (vec![-1.0; ndim], vec![1.0; ndim]);
+    let settings = Settings { xmin, xmax, ndiv: None, tolerance: None, border_tol: None };
+    let mut t = Tally::new("bench");
+    let mut w = settings.make(space, r, &mut t).unwrap();
+    let mut marks: Vec<Vec<f64>> = Vec::new();
+    while w.rows.len() + ROOM < space {
+        let x: Vec<f64> = (0..ndim).map(|_| r.between(-1.0, 1.0)).collect();
+        w.fill(marks.len() as u64, &x, &mut t);
+        marks.push(x);
+    }
+    (w, marks)
+}
+
 /// Whole calls beside gemlab's at several sizes, and apart from them the look at every row.
 pub fn measure() {
     for ndim in [2, 3] {
@@ -952,22 +968,7 @@ pub fn measure() {
         println!("  rows     search at a mark    search elsewhere   insert again        insert new          check a row   past the check");
         for n in [100, 1000, 10_000, MOST_ROWS] {
             let mut r = Random::new(15);
-            let settings = Settings {
-                xmin: vec![-1.0; ndim],
-                xmax: vec![1.0; ndim],
-                ndiv: None,
-                tolerance: None,
-                border_tol: None,
-            };
-            let room = 64;
-            let mut t = Tally::new("bench-rows");
-            let mut w = settings.make(n, &mut r, &mut t).unwrap();
-            let mut marks: Vec<Vec<f64>> = Vec::new();
-            while w.rows.len() + room < n {
-                let x: Vec<f64> = (0..ndim).map(|_| r.between(-1.0, 1.0)).collect();
-                w.fill(marks.len() as u64, &x, &mut t);
-                marks.push(x);
-            }
+            let (mut w, marks) = filled(ndim, n, &mut r);
             let used = w.lent.used as f64;
             let pick: Vec<usize> = (0..1024).map(|_| r.below(marks.len() as u64) as usize).collect();
             let others: Vec<Vec<f64>> = (0..1024).map(|_| (0..ndim).map(|_| r.between(-1.0, 1.0)).collect()).collect();
