@@ -48,7 +48,7 @@ pub(crate) struct Asked {
 }
 
 impl Asked {
-    fn new(place: u64, a: &[f64], b: &[f64], number: f64) -> Self {
+    pub(crate) fn new(place: u64, a: &[f64], b: &[f64], number: f64) -> Self {
         Asked { place, a: a.to_vec(), b: b.to_vec(), number, filter: 0, axis: 9, low: f64::NAN, high: f64::NAN }
     }
 
@@ -108,7 +108,7 @@ impl Asked {
 }
 
 /// The number, the count after the call, and the list, of which `room` entries are lent.
-fn list(lent: &Lent, asked: &Asked, room: usize) -> (u64, u64, Vec<u64>) {
+pub(crate) fn list(lent: &Lent, asked: &Asked, room: usize) -> (u64, u64, Vec<u64>) {
     let mut out = vec![ENTRY; room + 1];
     let mut count = COUNT;
     // SAFETY: each pointer is a vector's or a local's, which is aligned and not null, with its length; the written ones are apart.

@@ -9,6 +9,7 @@
 mod c;
 mod cell_search;
 mod cells;
+mod check;
 mod choice;
 mod field;
 mod floats;
@@ -35,6 +36,7 @@ const PARTS: &[(&str, fn(&mut Tally))] = &[
     ("listing", listing::compare),
     ("strike", strike::compare),
     ("nearest", nearest::compare),
+    ("check", check::compare),
     ("cells", cells::compare),
     ("field", field::compare),
 ];

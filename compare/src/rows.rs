@@ -26,7 +26,7 @@ const ID: u64 = 0x0fed_cba9_8765_4321;
 const BESIDE: u64 = 0x5555_aaaa_5555_aaaa;
 
 /// What is lent: a sheet's two lists, the five lists of a library and its used count.
-#[derive(Clone, Debug)]
+#[derive(Clone, Debug, Default)]
 pub(crate) struct Lent {
     pub(crate) numbers: Vec<u64>,
     pub(crate) floats: Vec<f64>,
@@ -302,7 +302,7 @@ impl Lent {
         }
     }
 
-    fn swap(&mut self, i: usize, j: usize) {
+    pub(crate) fn swap(&mut self, i: usize, j: usize) {
         self.keys.swap(i, j);
         self.ids.swap(i, j);
         self.xs.swap(i, j);
@@ -310,8 +310,8 @@ impl Lent {
         self.zs.swap(i, j);
     }
 
-    /// Row i over the next.
-    fn repeat(&mut self, i: usize) {
+    /// Row i over the next, but for its coordinates.
+    pub(crate) fn repeat(&mut self, i: usize) {
         self.keys[i + 1] = self.keys[i];
         self.ids[i + 1] = self.ids[i];
     }

@@ -21,7 +21,7 @@ const CHANGED: usize = 300_000;
 const CHANGED_IN_A_RUN: usize = 100;
 
 /// An id that no library has.
-const ABSENT: u64 = 0x5555_5555_5555_5555;
+pub(crate) const ABSENT: u64 = 0x5555_5555_5555_5555;
 
 /// What `removed` holds before a call.
 const REMOVED: u64 = 0x1234_5678_9abc_def0;
