@@ -6,9 +6,11 @@ use crate::c::gemlab_grid_search_check;
 use crate::listing::{list, Asked};
 use crate::near::{down, up};
 use crate::random::Random;
-use crate::rows::{damaged, Lent, Settings, Source, LIMIT, MOST_ROWS};
+use crate::rows::{damaged, filled, Lent, Settings, Source, LIMIT, MOST_ROWS};
 use crate::strike::{Story, ABSENT};
 use crate::tally::{Kinds, Tally};
+use crate::timing::{burst, in_turn};
+use std::hint::black_box;
 
 /// Checks of libraries that were changed at random, and how many of one library.
 const CHANGED: usize = 400_000;
@@ -559,4 +561,69 @@ pub fn compare(t: &mut Tally) {
     t.met("strike", &[0, 13, 24, 26]);
     t.met("search", &[2, 13, 24]);
     t.met("list", &[13, 16, 24]);
+}
+
+/// The walk in plain Rust: the lowest bad row of a library whose layout is good.
+fn walk(lent: &Lent) -> Option<usize> {
+    let used = lent.used as usize;
+    let (keys, ids) = (&lent.keys[..used], &lent.ids[..used]);
+    let (xs, ys, zs) = (&lent.xs[..used], &lent.ys[..used], &lent.zs[..used]);
+    let (containers, is_2d) = (lent.containers(), lent.is_2d());
+    let mut before = (0, 0);
+    for i in 0..used {
+        let row = (keys[i], ids[i]);
+        let third = if is_2d { zs[i].to_bits() == 0 } else { zs[i].abs() <= LIMIT };
+        let is_good = keys[i] < containers && xs[i].abs() <= LIMIT && ys[i].abs() <= LIMIT && third;
+        if !is_good || (i > 0 && row <= before) {
+            return Some(i);
+        }
+        before = row;
+    }
+    None
+}
+
+/// The bits of every entry in use, added up list by list.
+fn sum(lent: &Lent) -> u64 {
+    let used = lent.used as usize;
+    let numbers = [&lent.keys, &lent.ids].map(|list| list[..used].iter().fold(0, |sum: u64, n| sum.wrapping_add(*n)));
+    let floats = [&lent.xs, &lent.ys, &lent.zs]
+        .map(|list| list[..used].iter().fold(0, |sum: u64, x| sum.wrapping_add(x.to_bits())));
+    numbers.iter().chain(&floats).fold(0, |sum, n| sum.wrapping_add(*n))
+}
+
+/// A check for each row, which is what it takes more than one of no rows; beside it the walk in plain Rust and the sum of what it
+/// reads, for each row too. Whole checks of no rows and where the first is bad. And a search anywhere, whole and past the check.
+pub fn measure() {
+    for ndim in [2, 3] {
+        println!("bench check, {ndim}D, in nanoseconds");
+        println!("  rows  check a row  in plain Rust    sum  no rows  first row bad   search  past the check");
+        for space in [1000, 10_000, MOST_ROWS] {
+            let mut r = Random::new(86);
+            let (w, _) = filled(ndim, space, &mut r);
+            let elsewhere: Vec<Vec<f64>> =
+                (0..1024).map(|_| (0..ndim).map(|_| r.between(-1.0, 1.0)).collect()).collect();
+            let lent = &w.lent;
+            let (mut none, mut bad) = (lent.clone(), lent.clone());
+            none.used = 0;
+            bad.keys[0] = u64::MAX;
+            assert_eq!((walk(lent), lent.check()), (None, (0, results(0, ROW, lent.used))));
+            assert_eq!((walk(&bad), bad.check()), (Some(0), (0, results(1, 0, 1))));
+            let [of_none, of_bad, whole, plain, read, search] = in_turn([
+                &burst(|_| none.check().0),
+                &burst(|_| bad.check().0),
+                &burst(|_| lent.check().0),
+                &burst(|_| walk(black_box(lent)).is_some() as u64),
+                &burst(|_| sum(black_box(lent))),
+                &burst(|k| lent.search(&elsewhere[k % 1024]).1),
+            ]);
+            let rows = lent.used as f64;
+            println!(
+                "{rows:6}  {:11.3}  {:13.3}  {:5.3}  {of_none:7.0}  {of_bad:13.0}  {search:7.0}  {:14.0}",
+                (whole - of_none) / rows,
+                plain / rows,
+                read / rows,
+                search - whole
+            );
+        }
+    }
 }

@@ -49,6 +49,7 @@ const BENCHES: &[(&str, fn())] = &[
     ("bench-listing", listing::measure),
     ("bench-strike", strike::measure),
     ("bench-nearest", nearest::measure),
+    ("bench-check", check::measure),
     ("bench-cells", cells::measure),
 ];
 
