@@ -187,13 +187,13 @@ unfolding with room
 stacked n = with 9 twoAndHalf oneAndHalf (with 2 twoAndHalf oneAndHalf (with 6 twoAndHalf oneAndHalf (room n)))
 
 -- four rows of 7 at (2, 1), with these keys and third coordinates
-unfoldable pub shelf : List ℕ → List Float → Library
-shelf keys zs = record { keys = keys; ids = replicate 4 7; xs = replicate 4 (pow2 1); ys = replicate 4 (pow2 0); zs = zs; used = 4 }
+unfoldable pub fourWith : List ℕ → List Float → Library
+fourWith keys zs = record { keys = keys; ids = replicate 4 7; xs = replicate 4 (pow2 1); ys = replicate 4 (pow2 0); zs = zs; used = 4 }
 
--- its rows, with no third coordinate but +0
-unfoldable pub flat : List ℕ → Library
-unfolding shelf
-flat keys = shelf keys (replicate 4 zeroF)
+-- the same with +0 as every third coordinate
+unfoldable pub four : List ℕ → Library
+unfolding fourWith
+four keys = fourWith keys (replicate 4 zeroF)
 
 unfoldable pub check : Library → Stated
 unfolding ofCheck checking S
@@ -225,7 +225,7 @@ line g s = record { given = g; stated = s }
 
 unfoldable pub lines : List Line
 unfolding line sqrtOf containerOf S find seven moved eight sixThree retire sevenGone closed holding withTolerance pointCircleAnswer ofDistance ofChange keysOf inTriangle inside
-    anchors sides equalRoots stacked squareTo distanceTo lt check flat shelf
+    anchors sides equalRoots stacked squareTo distanceTo lt check four fourWith
 lines =
     -- S has divisions 8 and 4, and side 1
     line (numbers (counts 2 (S .ndiv))) (numbers (8 ∷ 4 ∷ []))
@@ -291,18 +291,18 @@ lines =
     ∷ line (find (stacked 4) twoAndHalf oneAndHalf) (number 2)
     ∷ line (find (stacked 4) aboveTwoAndHalf oneAndHalf) (number 2)
     -- Document 02, request c: no row of 7 at (2, 1) is bad, and 4 are visited; without rows none is
-    ∷ line (check (flat (1 ∷ 2 ∷ 9 ∷ 10 ∷ []))) (numbers (4 ∷ []))
+    ∷ line (check (four (1 ∷ 2 ∷ 9 ∷ 10 ∷ []))) (numbers (4 ∷ []))
     ∷ line (check (room 8)) (numbers (0 ∷ []))
     -- key 2 after key 9, and key 2 twice: the later of the two rows is told, and every other call is 13
-    ∷ line (check (flat (1 ∷ 9 ∷ 2 ∷ 10 ∷ []))) (numbers (2 ∷ 3 ∷ []))
-    ∷ line (check (flat (1 ∷ 2 ∷ 2 ∷ 10 ∷ []))) (numbers (2 ∷ 3 ∷ []))
-    ∷ line (find (flat (1 ∷ 9 ∷ 2 ∷ 10 ∷ [])) (pow2 1) (pow2 0)) (refusal 13)
+    ∷ line (check (four (1 ∷ 9 ∷ 2 ∷ 10 ∷ []))) (numbers (2 ∷ 3 ∷ []))
+    ∷ line (check (four (1 ∷ 2 ∷ 2 ∷ 10 ∷ []))) (numbers (2 ∷ 3 ∷ []))
+    ∷ line (find (four (1 ∷ 9 ∷ 2 ∷ 10 ∷ [])) (pow2 1) (pow2 0)) (refusal 13)
     -- S has 32 containers: keys 31 and 32 in the last row
-    ∷ line (check (flat (1 ∷ 2 ∷ 9 ∷ 31 ∷ []))) (numbers (4 ∷ []))
-    ∷ line (check (flat (1 ∷ 2 ∷ 9 ∷ 32 ∷ []))) (numbers (3 ∷ 4 ∷ []))
-    -- -0 in row 1, and a bad key after it or before it: the lower row is told
-    ∷ line (check (shelf (1 ∷ 2 ∷ 9 ∷ 8 ∷ []) (zeroF ∷ fin true 0 (pos 0) ∷ zeroF ∷ zeroF ∷ []))) (numbers (1 ∷ 2 ∷ []))
-    ∷ line (check (shelf (32 ∷ 2 ∷ 9 ∷ 10 ∷ []) (zeroF ∷ fin true 0 (pos 0) ∷ zeroF ∷ zeroF ∷ []))) (numbers (0 ∷ 1 ∷ []))
+    ∷ line (check (four (1 ∷ 2 ∷ 9 ∷ 31 ∷ []))) (numbers (4 ∷ []))
+    ∷ line (check (four (1 ∷ 2 ∷ 9 ∷ 32 ∷ []))) (numbers (3 ∷ 4 ∷ []))
+    -- -0 in row 1, and a row out of order after it or a key too high before it: the lower row is told
+    ∷ line (check (fourWith (1 ∷ 2 ∷ 9 ∷ 8 ∷ []) (zeroF ∷ fin true 0 (pos 0) ∷ zeroF ∷ zeroF ∷ []))) (numbers (1 ∷ 2 ∷ []))
+    ∷ line (check (fourWith (32 ∷ 2 ∷ 9 ∷ 10 ∷ []) (zeroF ∷ fin true 0 (pos 0) ∷ zeroF ∷ zeroF ∷ []))) (numbers (0 ∷ 1 ∷ []))
     -- more rows in use than there is room for
     ∷ line (check (holding 2 3)) (refusal 13)
     ∷ []
@@ -316,8 +316,8 @@ Agree (l ∷ ls) = (l .given ≡ l .stated) × Agree ls
 
 -- four rows, all in use: 7 at (2, 1)
 unfoldable pub fourRows : Library
-unfolding flat
-fourRows = flat (1 ∷ 2 ∷ 9 ∷ 10 ∷ [])
+unfolding four
+fourRows = four (1 ∷ 2 ∷ 9 ∷ 10 ∷ [])
 
 -- 7 at (2, 1) once more
 unfoldable pub full : Turn ℕ

@@ -96,12 +96,9 @@ numbered s l e = code-none (libraryTests s l) ((λ h. omega arith), ((λ h. omeg
 pub divided : (s : GridSearch) → sheetOk s ≡ true → Divided s
 divided s e = let g = good s e in record { axes = g .axes; divisions = g .divisions }
 
-pub laid-out : {s : GridSearch} (l : Library) → Divided s → soundLayout l ≡ true → Checked s l
-laid-out l d e = record { sheet = d; room = room-used l e }
-
 module _ {s : GridSearch} {l : Library} (w : Whole s l) where
   pub checked : Checked s l
-  checked = laid-out l (divided s (w .sheet)) (w .layout)
+  checked = record { sheet = divided s (w .sheet); room = room-used l (w .layout) }
 
   pub in-order : InOrder l
   in-order = record { room = room-used l (w .layout); order = w .order }

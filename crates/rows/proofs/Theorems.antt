@@ -1,6 +1,6 @@
 -- A proof of each claim of specs/Claims.antt.
 -- Assumes nothing.
-use Prim.Native.Nat.{ℕ, suc, _+_, _≤_, _<_, zero-le, suc-le-suc}
+use Prim.Native.Nat.{ℕ, suc, _+_, _<_, zero-le, suc-le-suc}
 use native.Mathlib.Omega.{arith}
 use mathlib.Core.Path.{_≡_, refl, sym, ap, _∙_, subst}
 use mathlib.Core.Bool.{Bool, true, false, not, cond, _&&_, and-false}
@@ -16,7 +16,7 @@ use Rattle.table.specs.Library.{Library, table, space, tooLong, soundLayout}
 use Rattle.grid_search.specs.declared.GridSearch.{GridSearch}
 use Rattle.grid_search.specs.Sheet.{sheetOk}
 use Rattle.rows.specs.Damage.{goodRow, soundRows, sound, libraryTests}
-use Rattle.rows.specs.Check.{above, badFrom, lowestBad, visits, walk, checkTests, checking, walked}
+use Rattle.rows.specs.Check.{above, Walk, walkFrom, walk, checkTests, checking, walked}
 use Rattle.rows.specs.declared.Walked.{Walked}
 use Rattle.rows.specs.Claims.{noneTold, Told, damage, SameDamage}
 
@@ -33,30 +33,31 @@ module _ (good : Row → Bool) where
   after-cons none q qs = refl
   after-cons (some p) q qs = refl
 
-  told-from : (n : ℕ) (o : Option Slot) (rows : List Row) → noneTold (badFrom good n o rows) ≡ (all good rows && after o (map slotOf rows))
-  unfolding noneTold badFrom all after sorted chain
+  told-from : (n : ℕ) (o : Option Slot) (rows : List Row) → noneTold (walkFrom good n o rows .bad) ≡ (all good rows && after o (map slotOf rows))
+  unfolding noneTold walkFrom all after sorted chain
   told-from n none [] = refl
   told-from n (some p) [] = refl
   told-from n o (r ∷ rows) =
-      step (good r) (above o (slotOf r)) (badFrom good (suc n) (some (slotOf r)) rows) (all good rows) (chain (slotOf r) (map slotOf rows)) (told-from (suc n) (some (slotOf r)) rows)
+      step (good r) (above o (slotOf r)) (walkFrom good (suc n) (some (slotOf r)) rows) (all good rows) (chain (slotOf r) (map slotOf rows)) (told-from (suc n) (some (slotOf r)) rows)
       ∙ ap (λ (b : Bool). (good r && all good rows) && b) (sym (after-cons o (slotOf r) (map slotOf rows)))
     where
-      step : (g a : Bool) (rest : Option ℕ) (x y : Bool) → noneTold rest ≡ (x && y) → noneTold (cond (g && a) rest (some n)) ≡ ((g && x) && (a && y))
+      step : (g a : Bool) (rest : Walk) (x y : Bool) → noneTold (rest .bad) ≡ (x && y) → noneTold ((cond (g && a) rest (record { bad = some n; visited = suc n })) .bad) ≡ ((g && x) && (a && y))
       step false a rest x y h = refl
       step true false rest x y h = sym (and-false x)
       step true true rest x y h = h
 
-  -- ---- the row told is the first with which the rows are bad
+  -- ---- the row told is the first with which the rows are bad, and the count is that of the rows up to it, or of all
 
   record Lowest (n : ℕ) (o : Option Slot) (rows : List Row) (i : ℕ) : Type 0 where
     index : ℕ
     number : i ≡ n + index
     among : index < length rows
-    good-before : badFrom good n o (take index rows) ≡ none
-    bad-with : badFrom good n o (take (suc index) rows) ≡ some i
+    good-before : walkFrom good n o (take index rows) .bad ≡ none
+    bad-with : walkFrom good n o (take (suc index) rows) .bad ≡ some i
+    counted : walkFrom good n o rows .visited ≡ suc i
 
-  lowest : (n : ℕ) (o : Option Slot) (rows : List Row) (i : ℕ) → badFrom good n o rows ≡ some i → Lowest n o rows i
-  unfolding badFrom
+  lowest : (n : ℕ) (o : Option Slot) (rows : List Row) (i : ℕ) → walkFrom good n o rows .bad ≡ some i → Lowest n o rows i
+  unfolding walkFrom
   lowest n o [] i e = absurd (Option·some-ne-none i (sym e))
   lowest n o (r ∷ rows) i e =
       by-test (good r && above o (slotOf r))
@@ -68,39 +69,46 @@ module _ (good : Row → Bool) where
         among = suc-le-suc (l .among);
         good-before = rw t (l .good-before);
         bad-with = rw t (l .bad-with);
+        counted = rw t (l .counted);
       })
       (λ t.
       let f : some n ≡ some i = rw t at e in
-      record { index = 0; number = omega (arith, Option·some-injective n i f); among = suc-le-suc zero-le; good-before = refl; bad-with = rw t f })
+      let g : n ≡ i = Option·some-injective n i f in
+      record { index = 0; number = omega (arith, g); among = suc-le-suc zero-le; good-before = refl; bad-with = rw t f; counted = rw t (ap suc g) })
+
+  to-the-end : (n : ℕ) (o : Option Slot) (rows : List Row) → walkFrom good n o rows .bad ≡ none → walkFrom good n o rows .visited ≡ n + length rows
+  unfolding walkFrom
+  to-the-end n o [] e = omega arith
+  to-the-end n o (r ∷ rows) e =
+      by-test (good r && above o (slotOf r))
+      (λ t. let v = to-the-end (suc n) (some (slotOf r)) rows (rw t at e) in rw t (omega (arith, v)))
+      (λ t. absurd (Option·some-ne-none n (rw t at e)))
 
 -- ---- the claims
 
 module _ (s : GridSearch) (rows : List Row) where
-  exactly : noneTold (lowestBad (goodRow s) rows) ≡ soundRows s rows
-  unfolding lowestBad soundRows after
+  exactly : noneTold (walk (goodRow s) rows .bad) ≡ soundRows s rows
+  unfolding walk soundRows after
   exactly = told-from (goodRow s) 0 none rows
 
-  first : (i : ℕ) → lowestBad (goodRow s) rows ≡ some i → Lowest (goodRow s) 0 none rows i
-  unfolding lowestBad
+  first : (i : ℕ) → walk (goodRow s) rows .bad ≡ some i → Lowest (goodRow s) 0 none rows i
+  unfolding walk
   first i e = lowest (goodRow s) 0 none rows i e
 
 pub told : Told
-unfolding lowestBad noneTold walk visits
+unfolding walk noneTold
 told s rows =
     record {
       exactly = exactly s rows;
       among = λ i e. subst (λ (j : ℕ). j < length rows) (at i e) (first s rows i e .among);
-      sound-before = λ i e. sym (exactly s (take i rows)) ∙ ap noneTold (subst (λ (j : ℕ). badFrom (goodRow s) 0 none (take j rows) ≡ none) (at i e) (first s rows i e .good-before));
-      unsound-with = λ i e. sym (exactly s (take (suc i) rows)) ∙ ap noneTold (subst (λ (j : ℕ). badFrom (goodRow s) 0 none (take (suc j) rows) ≡ some i) (at i e) (first s rows i e .bad-with));
-      most = most (lowestBad (goodRow s) rows) refl;
+      sound-before = λ i e. sym (exactly s (take i rows)) ∙ ap noneTold (subst (λ (j : ℕ). walkFrom (goodRow s) 0 none (take j rows) .bad ≡ none) (at i e) (first s rows i e .good-before));
+      unsound-with = λ i e. sym (exactly s (take (suc i) rows)) ∙ ap noneTold (subst (λ (j : ℕ). walkFrom (goodRow s) 0 none (take (suc j) rows) .bad ≡ some i) (at i e) (first s rows i e .bad-with));
+      visited-to = λ i e. first s rows i e .counted;
+      visited-all = λ e. omega (arith, to-the-end (goodRow s) 0 none rows e);
     }
   where
-    at : (i : ℕ) (e : lowestBad (goodRow s) rows ≡ some i) → first s rows i e .index ≡ i
+    at : (i : ℕ) (e : walk (goodRow s) rows .bad ≡ some i) → first s rows i e .index ≡ i
     at i e = omega (arith, first s rows i e .number)
-
-    most : (o : Option ℕ) → lowestBad (goodRow s) rows ≡ o → visits o (length rows) ≤ length rows
-    most none e = omega arith
-    most (some i) e = subst (λ (j : ℕ). j < length rows) (at i e) (first s rows i e .among)
 
 pub same-damage : SameDamage
 unfolding damage checking checkTests libraryTests fault code answer sound walk

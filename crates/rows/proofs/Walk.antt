@@ -9,17 +9,17 @@ use mathlib.Core.List.{List, [], _∷_}
 use mathlib.Core.Option.{Option, none, some}
 use lib.Dec.{ltb, leb, leb·zero, leb·suc-suc}
 use lib.ListN.{length, drop, drop-of-length-le}
+use lib.Ieee.{Float}
 use borrow.Author.Tests.{ltb-true}
-use Rattle.basics.specs.Refusals.{success}
 use Rattle.basics.proofs.Bools.{by-test, and-left, and-right}
 use Rattle.basics.proofs.Lists.{drop-tab}
 use Rattle.basics.proofs.Numbers.{at-most}
 use Rattle.table.specs.declared.Row.{Row}
-use Rattle.table.specs.Rows.{Slot, slotted, slotOf, keyIn, zIn, before}
+use Rattle.table.specs.Rows.{Slot, slotted, slotOf, before}
 use Rattle.table.specs.Library.{Library, rowAt, rowsOf, table}
 use Rattle.table.proofs.Libraries.{length-table}
-use Rattle.rows.specs.Check.{above, badFrom, lowestBad, visits, walk}
-use Rattle.rows.specs.Posts.{third, goodIn, slotBefore}
+use Rattle.rows.specs.Check.{above, walkFrom, walk}
+use Rattle.rows.specs.Posts.{third, goodParts, slotBefore}
 
 -- ---- a row and the one before it
 
@@ -47,8 +47,8 @@ in-order true false a x y h = refl
 in-order true true a x y h = rw (h refl) (and-comm a (x && y))
 
 -- the key of a row that passes is low enough
-pub low-key : (count : ℕ) (n : ℕ) (r : Row) (a : Bool) → (goodIn n count r && a) ≡ true → keyIn r < count
-low-key count n r a e = ltb-true (keyIn r) count (and-left (ltb (keyIn r) count) _ (and-right (third n (zIn r)) _ (and-left (goodIn n count r) a e)))
+pub low-key : (n count key : ℕ) (x y z : Float) (a : Bool) → (goodParts n count key x y z && a) ≡ true → key < count
+low-key n count key x y z a e = ltb-true key count (and-left (ltb key count) _ (and-right (third n z) _ (and-left (goodParts n count key x y z) a e)))
 
 -- the slot of a row before, as the code keeps it
 pub kept : (key id : ℕ) → slotBefore (key + 1) id ≡ some (slotted key id)
@@ -56,42 +56,33 @@ kept key id = rw add-one
 
 -- ---- the walk
 
-module _ (good : Row → Bool) (l : Library) (i : ℕ) (p : Option Slot) (walks : lowestBad good (table l) ≡ badFrom good i p (drop i (table l))) where
+module _ (good : Row → Bool) (l : Library) (i : ℕ) (p : Option Slot) (walks : walk good (table l) ≡ walkFrom good i p (drop i (table l))) where
   abbrev passes : Bool
   passes = good (rowAt l i) && above p (slotOf (rowAt l i))
 
-  turn : i < l .used → lowestBad good (table l) ≡ cond passes (badFrom good (i + 1) (some (slotOf (rowAt l i))) (drop (i + 1) (table l))) (some i)
-  unfolding badFrom table rowsOf
+  turn : i < l .used → walk good (table l) ≡ cond passes (walkFrom good (i + 1) (some (slotOf (rowAt l i))) (drop (i + 1) (table l))) (record { bad = some i; visited = i + 1 })
+  unfolding walkFrom table rowsOf
   turn h = walks ∙ rw (add-one, drop-tab (l .used) (rowAt l) i h)
 
   -- row i is the lowest bad one
-  pub stops : i < l .used → passes ≡ false → lowestBad good (table l) ≡ some i
-  stops h e = turn h ∙ rw e
+  pub stops : i < l .used → passes ≡ false → record { bad = some i; visited = i + 1 } ≡ walk good (table l)
+  stops h e = sym (turn h ∙ rw e)
 
   -- it is not bad
-  pub goes-on : i < l .used → passes ≡ true → lowestBad good (table l) ≡ badFrom good (i + 1) (some (slotOf (rowAt l i))) (drop (i + 1) (table l))
+  pub goes-on : i < l .used → passes ≡ true → walk good (table l) ≡ walkFrom good (i + 1) (some (slotOf (rowAt l i))) (drop (i + 1) (table l))
   goes-on h e = turn h ∙ rw e
 
-  pub ends : l .used ≤ i → lowestBad good (table l) ≡ none
-  unfolding badFrom
-  ends h = let e : length (table l) ≤ i = omega (arith, length-table l) in walks ∙ rw (drop-of-length-le (table l) e)
-
--- what it then tells
-module _ (good : Row → Bool) (l : Library) where
-  pub tells-bad : (i n : ℕ) → lowestBad good (table l) ≡ some i → n ≡ i + 1 → success (record { bad = some i; visited = n }) ≡ success (walk good (table l))
-  unfolding walk visits
-  tells-bad i n e h = rw (e, h, add-one)
-
-  pub tells-none : (n : ℕ) → lowestBad good (table l) ≡ none → n ≡ l .used → success (record { bad = none; visited = n }) ≡ success (walk good (table l))
-  unfolding walk visits
-  tells-none n e h = rw (e, h, length-table)
+  -- there is none
+  pub ends : l .used ≤ i → record { bad = none; visited = i } ≡ walk good (table l)
+  unfolding walkFrom
+  ends h = let e : length (table l) ≤ i = omega (arith, length-table l) in sym (walks ∙ rw (drop-of-length-le (table l) e))
 
 -- two tests that agree on every row tell the same
-from-same : (p q : Row → Bool) → ((r : Row) → p r ≡ q r) → (n : ℕ) (o : Option Slot) (rows : List Row) → badFrom p n o rows ≡ badFrom q n o rows
-unfolding badFrom
+from-same : (p q : Row → Bool) → ((r : Row) → p r ≡ q r) → (n : ℕ) (o : Option Slot) (rows : List Row) → walkFrom p n o rows ≡ walkFrom q n o rows
+unfolding walkFrom
 from-same p q h n o [] = refl
 from-same p q h n o (r ∷ rows) = rw (h r, from-same p q h (suc n) (some (slotOf r)) rows)
 
 pub walk-same : (p q : Row → Bool) → ((r : Row) → p r ≡ q r) → (rows : List Row) → walk p rows ≡ walk q rows
-unfolding walk lowestBad
-walk-same p q h rows = rw (from-same p q h 0 none rows)
+unfolding walk
+walk-same p q h rows = from-same p q h 0 none rows

@@ -4,7 +4,6 @@ use Prim.Native.Nat.{ℕ, suc}
 use mathlib.Core.Bool.{Bool, true, not, cond, _&&_}
 use mathlib.Core.List.{List, [], _∷_}
 use mathlib.Core.Option.{Option, none, some}
-use lib.ListN.{length}
 use Rattle.basics.specs.Refusals.{Test, refuse, fault, Answer, answer, refused, success}
 use Rattle.grid_search.specs.declared.GridSearch.{GridSearch}
 use Rattle.grid_search.specs.Sheet.{sheetOk}
@@ -21,30 +20,22 @@ unfolding before
 above none q = true
 above (some p) q = before p q
 
--- Of rows that are numbered from n on, the first of them after p: the lowest that is bad by itself or does not stand above the one before it, or none.
-unfoldable pub badFrom : (Row → Bool) → ℕ → Option Slot → List Row → Option ℕ
-unfolding above
-badFrom good n p [] = none
-badFrom good n p (r ∷ rows) = let rest = badFrom good (suc n) (some (slotOf r)) rows in cond (good r && above p (slotOf r)) rest (some n)
-
--- the lowest bad row
-unfoldable pub lowestBad : (Row → Bool) → List Row → Option ℕ
-unfolding badFrom
-lowestBad good rows = badFrom good 0 none rows
-
--- how many of n rows are visited, each once: those up to the bad one, and it, or all
-unfoldable pub visits : Option ℕ → ℕ → ℕ
-visits none n = n
-visits (some i) n = suc i
-
--- what the walk tells
+-- what the walk tells: the lowest bad row, or none, and how many rows were visited
 pub record Walk : Type 0 where
   pub bad : Option ℕ
   pub visited : ℕ
 
+-- The walk from row n on, n rows having been visited; p is the slot of the row before, if there is one. Each row is visited once, and the first that is bad by itself or does not stand above the one before it is told and ends the walk.
+unfoldable pub walkFrom : (Row → Bool) → ℕ → Option Slot → List Row → Walk
+unfolding above
+walkFrom good n p [] = record { bad = none; visited = n }
+walkFrom good n p (r ∷ rows) =
+    let rest = walkFrom good (suc n) (some (slotOf r)) rows in
+    cond (good r && above p (slotOf r)) rest (record { bad = some n; visited = suc n })
+
 unfoldable pub walk : (Row → Bool) → List Row → Walk
-unfolding lowestBad visits
-walk good rows = let bad = lowestBad good rows in record { bad = bad; visited = visits bad (length rows) }
+unfolding walkFrom
+walk good rows = walkFrom good 0 none rows
 
 -- 24, and 13 for the sheet, the lengths of the lists and the used count
 unfoldable pub checkTests : GridSearch → Library → List Test

@@ -1,6 +1,6 @@
 -- What is claimed of the check of a library. Proofs: proofs/Theorems.antt.
 -- Assumes nothing.
-use Prim.Native.Nat.{ℕ, suc, _≤_, _<_}
+use Prim.Native.Nat.{ℕ, suc, _<_}
 use mathlib.Core.Path.{_≡_}
 use mathlib.Core.Bool.{Bool, true, false, cond}
 use mathlib.Core.List.{List}
@@ -11,26 +11,27 @@ use Rattle.grid_search.specs.declared.GridSearch.{GridSearch}
 use Rattle.table.specs.declared.Row.{Row}
 use Rattle.table.specs.Library.{Library}
 use Rattle.rows.specs.Damage.{goodRow, soundRows, libraryTests}
-use Rattle.rows.specs.Check.{Walk, walk, lowestBad, checking}
+use Rattle.rows.specs.Check.{Walk, walk, checking}
 
 -- no row is told
 unfoldable pub noneTold : Option ℕ → Bool
 noneTold none = true
 noneTold (some i) = false
 
--- What the walk tells of rows, by 13 alone.
-pub record Telling (s : GridSearch) (rows : List Row) : Type 0 where
+-- What the walk tells of rows, in the words of 13 (`soundRows`).
+pub record Telling (s : GridSearch) (rows : List Row) (w : Walk) : Type 0 where
   -- 13 holds of the rows exactly if a row is told
-  pub exactly : noneTold (lowestBad (goodRow s) rows) ≡ soundRows s rows
+  pub exactly : noneTold (w .bad) ≡ soundRows s rows
   -- the row told is one of them; those before it are sound, and with it they are not
-  pub among : (i : ℕ) → lowestBad (goodRow s) rows ≡ some i → i < length rows
-  pub sound-before : (i : ℕ) → lowestBad (goodRow s) rows ≡ some i → soundRows s (take i rows) ≡ true
-  pub unsound-with : (i : ℕ) → lowestBad (goodRow s) rows ≡ some i → soundRows s (take (suc i) rows) ≡ false
-  -- no row is visited twice
-  pub most : walk (goodRow s) rows .visited ≤ length rows
+  pub among : (i : ℕ) → w .bad ≡ some i → i < length rows
+  pub sound-before : (i : ℕ) → w .bad ≡ some i → soundRows s (take i rows) ≡ true
+  pub unsound-with : (i : ℕ) → w .bad ≡ some i → soundRows s (take (suc i) rows) ≡ false
+  -- the rows visited are those up to it, and it, or all
+  pub visited-to : (i : ℕ) → w .bad ≡ some i → w .visited ≡ suc i
+  pub visited-all : w .bad ≡ none → w .visited ≡ length rows
 
 abbrev pub Told : Type 0
-Told = (s : GridSearch) (rows : List Row) → Telling s rows
+Told = (s : GridSearch) (rows : List Row) → Telling s rows (walk (goodRow s) rows)
 
 -- the number that a check's answer stands for in other calls: its refusal, or 13 where a row is told, or 0
 unfoldable pub damage : Answer Walk → ℕ

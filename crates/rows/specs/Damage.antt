@@ -33,7 +33,7 @@ unfoldable pub sound : GridSearch → Library → Bool
 unfolding sheetOk soundLayout soundRows table
 sound s l = sheetOk s && (soundLayout l && soundRows s (table l))
 
--- every call on a library: 24, 13
+-- every call on a library but its check: 24, 13
 unfoldable pub libraryTests : GridSearch → Library → List Test
 unfolding tooLong space sound
 libraryTests s l =

@@ -32,9 +32,12 @@ plusZero z = sameBits z zeroF
 abbrev pub third : ℕ → Float → Bool
 third n z = cond (eqb n 2) (plusZero z) (coordinate z)
 
--- a row by itself, where there are so many axes and containers
+-- a row by itself, where there are so many axes and containers: by its key and coordinates
+abbrev pub goodParts : ℕ → ℕ → ℕ → Float → Float → Float → Bool
+goodParts n count key x y z = third n z && (ltb key count && (coordinate x && coordinate y))
+
 abbrev pub goodIn : ℕ → ℕ → Row → Bool
-goodIn n count r = third n (zIn r) && (ltb (keyIn r) count && (coordinate (xIn r) && coordinate (yIn r)))
+goodIn n count r = goodParts n count (keyIn r) (xIn r) (yIn r) (zIn r)
 
 -- the slot of the row before, which the code keeps as its id and its key plus one; the bound of the first row is 0
 abbrev pub slotBefore : ℕ → ℕ → Option Slot

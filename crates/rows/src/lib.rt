@@ -10,13 +10,13 @@ ghost use Rattle.basics.specs.Refusals.{fault, code, success};
 ghost use Rattle.floats.specs.Rounded.{_⊕_, _⊖_};
 ghost use Rattle.geometry.specs.Position.{coords, dimension};
 ghost use Rattle.table.specs.Library.{library, table, space, tooLong, soundLayout};
-ghost use Rattle.table.specs.Rows.{slotted, rowOf};
+ghost use Rattle.table.specs.Rows.{slotted};
 ghost use Rattle.table.specs.Posts.{Room, lists};
 ghost use Rattle.rows.specs.Damage.{libraryTests};
 ghost use Rattle.rows.specs.Check.{above, walk, checking, walked};
 ghost use Rattle.rows.specs.Turn.{Gives};
 ghost use Rattle.rows.specs.Insert.{outsideSheet, corner, positionTests, insertion, inserted, usedAfter};
-ghost use Rattle.rows.specs.Posts.{third, goodIn, slotBefore, Divided, Added, FoundTargets, Judges};
+ghost use Rattle.rows.specs.Posts.{third, goodParts, goodIn, slotBefore, Divided, Added, FoundTargets, Judges};
 use geometry::Position;
 use grid::Located;
 use grid_search::GridSearch;
@@ -89,8 +89,8 @@ fn is_third(ndim: usize, z: f64) -> bool
     }
 }
 
-// Whether a row is good by itself and stands above the one before it, which is told as `is_above` has it. The tests are all
-// made, in the order of which the compiler makes the fewest instructions.
+// Whether a row is good by itself and stands above the one before it, which is told as `is_above` has it. No test is written
+// as a choice, and of this order the compiler makes the fewest instructions: a jump for each test.
 fn is_good(
     ndim: usize,
     count: u64,
@@ -103,7 +103,7 @@ fn is_good(
     z: f64,
 ) -> bool
     requires { ⌜ count ≤ 2 ^ 32 ⌝ }
-    ensures { λ r. ⌜ r ≡ (goodIn ndim count (rowOf key id x y z) && above (slotBefore bound last) (slotted key id)) ⌝ }
+    ensures { λ r. ⌜ r ≡ (goodParts ndim count key x y z && above (slotBefore bound last) (slotted key id)) ⌝ }
 {
     is_third(ndim, z)
         & ((key < count)
