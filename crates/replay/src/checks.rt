@@ -70,15 +70,16 @@ fn told(
     );
     let expected = compared::word(fd);
     if expected != 0 {
-        return number == expected && broken == BEFORE && row == BEFORE && visited == BEFORE;
+        return (number == expected)
+            & ((broken == BEFORE) & ((row == BEFORE) & (visited == BEFORE)));
     }
     let bad = compared::word(fd);
     let lowest = compared::word(fd);
     let walked = compared::word(fd);
     if bad == 0 {
-        return number == 0 && broken == 0 && row == BEFORE && visited == walked;
+        return (number == 0) & ((broken == 0) & ((row == BEFORE) & (visited == walked)));
     }
-    number == 0 && broken == bad && row == lowest && visited == walked
+    (number == 0) & ((broken == bad) & ((row == lowest) & (visited == walked)))
 }
 
 // A check with an entry of the library changed, which is put back.
