@@ -68,7 +68,7 @@ fn sheet(fd: i32, numbers: &mut [u64], floats: &mut [f64]) -> bool {
     }
     let same_numbers = compared::same_numbers(fd, numbers, 8);
     let same_floats = compared::same_floats(fd, floats, 17);
-    number == 0 && same_numbers && same_floats
+    (number == 0) & (same_numbers & same_floats)
 }
 
 fn insertion(
@@ -99,7 +99,7 @@ fn insertion(
     );
     let expected = compared::word(fd);
     let rows = compared::word(fd);
-    number == expected && *used == rows
+    (number == expected) & (*used == rows)
 }
 
 // The rows in use are compared where a table comes next, and the entries past them here.
@@ -131,7 +131,7 @@ fn striking(
     let expected = compared::word(fd);
     let rows = compared::word(fd);
     if expected != 0 {
-        return number == expected && *used == rows && removed == 7;
+        return (number == expected) & ((*used == rows) & (removed == 7));
     }
     let went = compared::word(fd);
     let past = rows as usize;
@@ -140,8 +140,8 @@ fn striking(
     let no_xs = compared::zero_floats(xs, past);
     let no_ys = compared::zero_floats(ys, past);
     let no_zs = compared::zero_floats(zs, past);
-    let cleared = no_keys && no_ids && no_xs && no_ys && no_zs;
-    number == 0 && *used == rows && removed == went && cleared
+    let cleared = no_keys & (no_ids & (no_xs & (no_ys & no_zs)));
+    (number == 0) & ((*used == rows) & ((removed == went) & cleared))
 }
 
 fn search(
@@ -183,7 +183,7 @@ fn search(
     // the first is the one to name; gemlab may give the others too
     let chosen = compared::word(fd);
     let another = compared::among(fd, id, count - 1);
-    number == 0 && found == 1 && id == chosen && !another
+    (number == 0) & ((found == 1) & ((id == chosen) & !another))
 }
 
 fn listing(
@@ -235,7 +235,7 @@ fn listing(
     }
     let n = compared::word(fd);
     let same = compared::same_numbers(fd, &list, n);
-    given == 0 && count == n && same
+    (given == 0) & ((count == n) & same)
 }
 
 // The rows in use, column by column.
@@ -254,7 +254,7 @@ fn table(
     let same_xs = compared::same_floats(fd, xs, n);
     let same_ys = compared::same_floats(fd, ys, n);
     let same_zs = compared::same_floats(fd, zs, n);
-    used == n && same_keys && same_ids && same_xs && same_ys && same_zs
+    (used == n) & (same_keys & (same_ids & (same_xs & (same_ys & same_zs))))
 }
 
 // A call that changes the library: a new sheet, which empties it, an insertion or a striking.

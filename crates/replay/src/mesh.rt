@@ -49,7 +49,7 @@ fn build(
     let same_keys = compared::same_numbers(fd, keys, rows);
     let same_cells = compared::same_numbers(fd, cells, rows);
     let same_large = compared::same_numbers(fd, large, many);
-    number == 0 && same_numbers && same_floats && same_keys && same_cells && same_large
+    (number == 0) & (same_numbers & (same_floats & (same_keys & (same_cells & same_large))))
 }
 
 // Whether a cell with its coordinates is among the next `count` of the file, which are read.
@@ -102,7 +102,7 @@ fn search(
         return number == 0 && found == 0 && compared::same(zeta[0], -12345.5);
     }
     let possible = among(fd, cell, &zeta, n as u64 + 1, count);
-    number == 0 && found == 1 && possible
+    (number == 0) & ((found == 1) & possible)
 }
 
 // One entry about a mesh: whether it agrees.
