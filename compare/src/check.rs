@@ -6,7 +6,7 @@ use crate::c::gemlab_grid_search_check;
 use crate::listing::{list, Asked};
 use crate::near::{down, up};
 use crate::random::Random;
-use crate::rows::{damaged, filled, Lent, Settings, Source, LIMIT, MOST_ROWS};
+use crate::rows::{damaged, filled, on_lent, Lent, Settings, Source, LIMIT, MOST_ROWS};
 use crate::strike::{Story, ABSENT};
 use crate::tally::{Kinds, Tally};
 use crate::timing::{burst, in_turn};
@@ -39,28 +39,7 @@ impl Lent {
         let [_, broken, _, row, _, visited, _] = &mut results;
         // SAFETY: each pointer is a vector's or a local's, which is aligned and not null, with at most its length; the written ones
         // are apart.
-        let number = unsafe {
-            gemlab_grid_search_check(
-                self.numbers.as_ptr(),
-                self.numbers.len(),
-                self.floats.as_ptr(),
-                self.floats.len(),
-                self.keys.as_ptr(),
-                self.keys.len() - last,
-                self.ids.as_ptr(),
-                self.ids.len() - last,
-                self.xs.as_ptr(),
-                self.xs.len() - last,
-                self.ys.as_ptr(),
-                self.ys.len() - last,
-                self.zs.as_ptr(),
-                self.zs.len() - last,
-                self.used,
-                broken,
-                row,
-                visited,
-            )
-        };
+        let number = unsafe { on_lent!(gemlab_grid_search_check, self, as_ptr, last, self.used, broken, row, visited) };
         (number, results)
     }
 

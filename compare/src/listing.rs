@@ -6,7 +6,7 @@ use crate::c::gemlab_grid_search_list;
 use crate::choice::chosen;
 use crate::near::{around, down, up};
 use crate::random::Random;
-use crate::rows::{Lent, Settings, Source, World, LIMIT, MOST_ROWS};
+use crate::rows::{on_lent, Lent, Settings, Source, World, LIMIT, MOST_ROWS};
 use crate::tally::Tally;
 use gemlab::util::GridSearch;
 use std::collections::{BTreeMap, BTreeSet, HashSet};
@@ -113,21 +113,11 @@ pub(crate) fn list(lent: &Lent, asked: &Asked, room: usize) -> (u64, u64, Vec<u6
     let mut count = COUNT;
     // SAFETY: each pointer is a vector's or a local's, which is aligned and not null, with its length; the written ones are apart.
     let number = unsafe {
-        gemlab_grid_search_list(
-            lent.numbers.as_ptr(),
-            lent.numbers.len(),
-            lent.floats.as_ptr(),
-            lent.floats.len(),
-            lent.keys.as_ptr(),
-            lent.keys.len(),
-            lent.ids.as_ptr(),
-            lent.ids.len(),
-            lent.xs.as_ptr(),
-            lent.xs.len(),
-            lent.ys.as_ptr(),
-            lent.ys.len(),
-            lent.zs.as_ptr(),
-            lent.zs.len(),
+        on_lent!(
+            gemlab_grid_search_list,
+            lent,
+            as_ptr,
+            0,
             lent.used,
             asked.place,
             asked.a.as_ptr(),
@@ -704,21 +694,11 @@ pub fn measure() {
                     let l = &w.lent;
                     // SAFETY: as in `list`.
                     let number = unsafe {
-                        gemlab_grid_search_list(
-                            l.numbers.as_ptr(),
-                            l.numbers.len(),
-                            l.floats.as_ptr(),
-                            l.floats.len(),
-                            l.keys.as_ptr(),
-                            l.keys.len(),
-                            l.ids.as_ptr(),
-                            l.ids.len(),
-                            l.xs.as_ptr(),
-                            l.xs.len(),
-                            l.ys.as_ptr(),
-                            l.ys.len(),
-                            l.zs.as_ptr(),
-                            l.zs.len(),
+                        on_lent!(
+                            gemlab_grid_search_list,
+                            l,
+                            as_ptr,
+                            0,
                             l.used,
                             asked.place,
                             asked.a.as_ptr(),

@@ -48,31 +48,35 @@ fn all_same(a: &[f64], b: &[f64]) -> bool {
     a.len() == b.len() && a.iter().zip(b).all(|(x, y)| x.to_bits() == y.to_bits())
 }
 
+/// A call of C on what is lent, but for the last entries of each list of rows, by pointers that may be written or not, and what it
+/// takes after them.
+macro_rules! on_lent {
+    ($call:ident, $lent:expr, $pointer:ident, $but:expr, $($rest:expr),+ $(,)?) => {
+        $call(
+            $lent.numbers.as_ptr(),
+            $lent.numbers.len(),
+            $lent.floats.as_ptr(),
+            $lent.floats.len(),
+            $lent.keys.$pointer(),
+            $lent.keys.len() - $but,
+            $lent.ids.$pointer(),
+            $lent.ids.len() - $but,
+            $lent.xs.$pointer(),
+            $lent.xs.len() - $but,
+            $lent.ys.$pointer(),
+            $lent.ys.len() - $but,
+            $lent.zs.$pointer(),
+            $lent.zs.len() - $but,
+            $($rest),+
+        )
+    };
+}
+pub(crate) use on_lent;
+
 impl Lent {
     pub(crate) fn insert(&mut self, id: u64, x: &[f64]) -> u64 {
         // SAFETY: each pointer is a vector's or a field's, which is aligned and not null, with its length; the written ones are apart.
-        unsafe {
-            gemlab_grid_search_insert(
-                self.numbers.as_ptr(),
-                self.numbers.len(),
-                self.floats.as_ptr(),
-                self.floats.len(),
-                self.keys.as_mut_ptr(),
-                self.keys.len(),
-                self.ids.as_mut_ptr(),
-                self.ids.len(),
-                self.xs.as_mut_ptr(),
-                self.xs.len(),
-                self.ys.as_mut_ptr(),
-                self.ys.len(),
-                self.zs.as_mut_ptr(),
-                self.zs.len(),
-                &mut self.used,
-                id,
-                x.as_ptr(),
-                x.len(),
-            )
-        }
+        unsafe { on_lent!(gemlab_grid_search_insert, self, as_mut_ptr, 0, &mut self.used, id, x.as_ptr(), x.len()) }
     }
 
     /// The number, and what the two results hold after the call.
@@ -86,29 +90,8 @@ impl Lent {
         let mut results = results(FOUND, ID);
         let [_, found, _, id, _] = &mut results;
         // SAFETY: as above.
-        let number = unsafe {
-            gemlab_grid_search_search(
-                self.numbers.as_ptr(),
-                self.numbers.len(),
-                self.floats.as_ptr(),
-                self.floats.len(),
-                self.keys.as_ptr(),
-                self.keys.len(),
-                self.ids.as_ptr(),
-                self.ids.len(),
-                self.xs.as_ptr(),
-                self.xs.len(),
-                self.ys.as_ptr(),
-                self.ys.len(),
-                self.zs.as_ptr(),
-                self.zs.len(),
-                self.used,
-                x.as_ptr(),
-                x.len(),
-                found,
-                id,
-            )
-        };
+        let number =
+            unsafe { on_lent!(gemlab_grid_search_search, self, as_ptr, 0, self.used, x.as_ptr(), x.len(), found, id) };
         (number, results)
     }
 

@@ -5,7 +5,7 @@
 use crate::c::gemlab_grid_search_strike;
 use crate::listing::{listing, write_rows, Places};
 use crate::random::Random;
-use crate::rows::{damaged, Lent, Settings, Source, World, MOST_ROWS};
+use crate::rows::{damaged, on_lent, Lent, Settings, Source, World, MOST_ROWS};
 use crate::tally::Tally;
 use gemlab::util::GridSearch;
 use std::collections::BTreeMap;
@@ -40,27 +40,8 @@ impl Lent {
         let mut removed = REMOVED;
         // SAFETY: each pointer is a vector's or a field's, which is aligned and not null, with at most its length; the written ones
         // are apart.
-        let number = unsafe {
-            gemlab_grid_search_strike(
-                self.numbers.as_ptr(),
-                self.numbers.len(),
-                self.floats.as_ptr(),
-                self.floats.len(),
-                self.keys.as_mut_ptr(),
-                self.keys.len() - last,
-                self.ids.as_mut_ptr(),
-                self.ids.len() - last,
-                self.xs.as_mut_ptr(),
-                self.xs.len() - last,
-                self.ys.as_mut_ptr(),
-                self.ys.len() - last,
-                self.zs.as_mut_ptr(),
-                self.zs.len() - last,
-                &mut self.used,
-                id,
-                &mut removed,
-            )
-        };
+        let number =
+            unsafe { on_lent!(gemlab_grid_search_strike, self, as_mut_ptr, last, &mut self.used, id, &mut removed) };
         (number, removed)
     }
 
