@@ -1,7 +1,7 @@
 -- What turns a call away. A call's tests stand in the order of document 01's line 'Order', and the first that fails gives the number.
 -- Assumes nothing.
 use Prim.Native.Nat.{ℕ}
-use mathlib.Core.Bool.{Bool, cond}
+use mathlib.Core.Bool.{Bool, true, false, cond}
 use mathlib.Core.Option.{Option, none, some}
 use mathlib.Core.List.{List, [], _∷_}
 
@@ -17,6 +17,10 @@ refuse n b = record { number = n; fails = b }
 unfoldable pub fault : List Test → Option ℕ
 fault [] = none
 fault (t ∷ ts) = let rest = fault ts in cond (t .fails) (some (t .number)) rest
+
+unfoldable pub isNone : Option ℕ → Bool
+isNone none = true
+isNone (some n) = false
 
 -- 0 where no test fails, as the C interface has it
 unfoldable pub code : Option ℕ → ℕ

@@ -70,7 +70,8 @@ module _ {a : Answer (Option ℕ)} (old id : ℕ) where
 
 module _ (l : Library) {s s′ : GridSearch} (same : s′ ≡ s) {r : Walked} (g : walked r ≡ checking s′ l) (broken row visited : ℕ) where
   pub told-walk : {a : Walked} → r ≡ a
-      → ToldWalk (checking s l) (number (badOf (walked a))) broken (written (through flag (badOf (walked a))) broken) row (idAfter (badOf (walked a)) row) visited (written (visitedOf (walked a)) visited)
+      → ToldWalk (checking s l) (number (badOf (walked a)))
+      broken (written (through flag (badOf (walked a))) broken) row (idAfter (badOf (walked a)) row) visited (written (visitedOf (walked a)) visited)
   told-walk e =
       let h = sym (ap walked e) ∙ g ∙ ap (λ (u : GridSearch). checking u l) same in
       record { told = told broken row (ap badOf h); visited-is = ap (λ (b : Answer Walk). written (visitedOf b) visited) h }

@@ -7,7 +7,7 @@ use mathlib.Core.List.{List, [], _∷_, _++_}
 use lib.Ieee.{Float}
 use Rattle.basics.proofs.Bools.{by-test}
 use Rattle.basics.specs.Lists.{keep, has}
-use Rattle.basics.specs.Refusals.{Test, fault}
+use Rattle.basics.specs.Refusals.{Test, fault, isNone}
 use Rattle.basics.proofs.Refusals.{fault-right, fault-stop}
 use Rattle.grid_search.specs.declared.GridSearch.{GridSearch}
 use Rattle.table.specs.declared.Row.{Row}
@@ -19,7 +19,6 @@ use Rattle.search.specs.Search.{isNear, nearRows, searchTests}
 use Rattle.listing.specs.declared.Filter.{Filter}
 use Rattle.listing.specs.Place.{Asked, isOn, placeTests}
 use Rattle.listing.specs.Listing.{idsOn, occupied, onTests}
-use Rattle.independence.specs.Run.{isNone}
 use Rattle.independence.specs.Queries.{pass, near, on}
 use Rattle.independence.proofs.Ids.{holds, has-ids, holds-own, none-there, occupied-own}
 

@@ -12,7 +12,7 @@ use lib.Ieee.{Float, le, eq}
 use borrow.Author.Tests.{eqb-true, eq-eqb, le-ltb}
 use Rattle.basics.proofs.Bools.{clash, both, and-both, or-either, or-true}
 use Rattle.basics.specs.Lists.{all, has}
-use Rattle.basics.specs.Refusals.{Test, refuse, fault, refused, success, answer}
+use Rattle.basics.specs.Refusals.{Test, refuse, fault, refused, success, answer, isNone}
 use Rattle.basics.proofs.Refusals.{fault-left, fault-right}
 use Rattle.floats.proofs.Order.{eq-le}
 use Rattle.grid_search.specs.declared.GridSearch.{GridSearch}
@@ -31,7 +31,6 @@ use Rattle.listing.specs.Place.{Asked, isOn, placeTests}
 use Rattle.listing.specs.Listing.{idsOn, onTests, listingTests, listing}
 use Rattle.basics.specs.Filled.{Filled, fill}
 use Rattle.basics.proofs.Filled.{fill-success, fill-refused}
-use Rattle.independence.specs.Run.{isNone}
 use Rattle.independence.specs.Queries.{pass, near, distance, on}
 use Rattle.independence.specs.Claims.{Finding, Writing}
 use Rattle.table.proofs.Libraries.{length-table}

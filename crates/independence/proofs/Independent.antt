@@ -7,13 +7,13 @@ use mathlib.Core.List.{List, [], _∷_, map}
 use lib.Dec.{eqb}
 use Rattle.basics.proofs.Bools.{by-test, both}
 use Rattle.basics.specs.Lists.{all}
-use Rattle.basics.specs.Refusals.{fault}
+use Rattle.basics.specs.Refusals.{fault, isNone}
 use Rattle.grid_search.specs.declared.GridSearch.{GridSearch}
 use Rattle.table.specs.Rows.{own}
 use Rattle.table.specs.Library.{Library, table, space}
 use Rattle.rows.specs.Damage.{libraryTests}
 use Rattle.rows.proofs.Check.{whole}
-use Rattle.independence.specs.Run.{Change, Call, change, search, list, step, isNone, accepted, run, replies}
+use Rattle.independence.specs.Run.{Change, Call, change, search, list, step, accepted, run, replies}
 use Rattle.independence.specs.Histories.{whose, history, effect}
 use Rattle.independence.proofs.Changes.{changeTests, changed, step-done, other-effect, own-effect, changed-table, changed-space, changed-passes, accepts-too}
 use Rattle.independence.proofs.Runs.{run-done, replies-done, history-own, history-other, run-kept, history-kept}

@@ -8,12 +8,12 @@ use lib.Dec.{eqb}
 use borrow.Author.Tests.{not-true}
 use Rattle.basics.proofs.Bools.{and-both}
 use Rattle.basics.specs.Lists.{all}
-use Rattle.basics.specs.Refusals.{fault}
+use Rattle.basics.specs.Refusals.{fault, isNone}
 use Rattle.basics.proofs.Refusals.{fault-stop}
 use Rattle.grid_search.specs.declared.GridSearch.{GridSearch}
 use Rattle.table.specs.Library.{Library}
 use Rattle.rows.specs.Damage.{libraryTests}
-use Rattle.independence.specs.Run.{Change, Call, change, search, list, Reply, step, isNone, accepted, run, replies}
+use Rattle.independence.specs.Run.{Change, Call, change, search, list, Reply, step, accepted, run, replies}
 use Rattle.independence.specs.Histories.{whose, history, other, others}
 use Rattle.independence.proofs.Changes.{changeTests, ownTests, changed, step-done, step-refused}
 

@@ -5,7 +5,7 @@ use mathlib.Core.Bool.{true}
 use mathlib.Core.Option.{Option, none, some, Option·some-ne-none}
 use mathlib.Core.List.{List, [], _∷_, _++_, map}
 use Rattle.basics.specs.Lists.{all, keep}
-use Rattle.basics.specs.Refusals.{fault}
+use Rattle.basics.specs.Refusals.{fault, isNone}
 use Rattle.table.specs.declared.Row.{Row}
 use Rattle.table.specs.Rows.{slotOf, sorted, rowFor, own}
 use Rattle.table.proofs.Ids.{own-own, own-ext}
@@ -15,7 +15,7 @@ use Rattle.table.specs.Library.{Library, table}
 use Rattle.rows.specs.Damage.{libraryTests}
 use Rattle.rows.proofs.Check.{whole}
 use Rattle.rows.proofs.Kept.{empty-passes, empty-too}
-use Rattle.independence.specs.Run.{Change, step, isNone, run, replies}
+use Rattle.independence.specs.Run.{Change, step, run, replies}
 use Rattle.independence.specs.Histories.{history, built, placed}
 use Rattle.independence.specs.Claims.{Empty, replay, Alike, Independence, Unmoved, Permanence, Soundness, Start, standing, Rows, Answers, Meaning, Freeing, Vanishing}
 use Rattle.independence.specs.Queries.{pass}

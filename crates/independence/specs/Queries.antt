@@ -6,7 +6,7 @@ use mathlib.Core.Option.{Option·elim}
 use mathlib.Core.List.{List, map}
 use lib.Ieee.{Float, nan}
 use Rattle.basics.specs.Lists.{has}
-use Rattle.basics.specs.Refusals.{Test, fault}
+use Rattle.basics.specs.Refusals.{Test, fault, isNone}
 use Rattle.grid_search.specs.declared.GridSearch.{GridSearch}
 use Rattle.table.specs.Rows.{slotted, idIn, rowFor}
 use Rattle.table.specs.Library.{Library, table}
@@ -15,7 +15,6 @@ use Rattle.search.specs.Search.{nearRows, away, searchTests}
 use Rattle.listing.specs.declared.Filter.{Filter}
 use Rattle.listing.specs.Place.{Asked}
 use Rattle.listing.specs.Listing.{idsOn, onTests}
-use Rattle.independence.specs.Run.{isNone}
 
 -- no test fails
 unfoldable pub pass : List Test → Bool

@@ -1,11 +1,11 @@
 -- Calls on a library, one after the other. Each is answered by the definition that the contract of its function cites: `insertion`, `striking`, `searchAnswer`, `listing`.
 -- Assumes nothing.
 use Prim.Native.Nat.{ℕ}
-use mathlib.Core.Bool.{Bool, true, false}
+use mathlib.Core.Bool.{Bool}
 use mathlib.Core.Option.{Option, none, some}
 use mathlib.Core.List.{List, [], _∷_}
 use lib.Ieee.{Float}
-use Rattle.basics.specs.Refusals.{Answer, refused, success}
+use Rattle.basics.specs.Refusals.{Answer, refused, success, isNone}
 use Rattle.grid_search.specs.declared.GridSearch.{GridSearch}
 use Rattle.table.specs.Library.{Library}
 use Rattle.rows.specs.Turn.{Turn}
@@ -63,10 +63,6 @@ unfolding refusalIn
 refusal (counted a) = refusalIn a
 refusal (found a) = refusalIn a
 refusal (listed t) = refusalIn (t .answer)
-
-unfoldable pub isNone : Option ℕ → Bool
-isNone none = true
-isNone (some n) = false
 
 unfoldable pub accepted : Reply → Bool
 unfolding isNone refusal

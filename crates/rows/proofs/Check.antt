@@ -126,9 +126,9 @@ module _ (s : GridSearch) (l : Library) where
       unfolding checking checkTests fault answer
       told = rw (e, f, g)
 
-      -- a walk by the tests that the code makes, on so many axes
-      pub walks : {n count : ℕ} {r : Answer Walk} → s .ndim ≡ n → count ≡ containers (counts (s .ndim) (s .ndiv)) → r ≡ success (walk (goodIn n count) (table l)) → r ≡ checking s l
-      walks {n} {count} a c w = w ∙ ap success (walk-same (goodIn n count) (goodRow s) same (table l)) ∙ told
+      -- a walk by the tests that the code makes
+      pub walks : {count : ℕ} {r : Answer Walk} → count ≡ containers (counts (s .ndim) (s .ndiv)) → r ≡ success (walk (goodIn (s .ndim) count) (table l)) → r ≡ checking s l
+      walks {count} c w = w ∙ ap success (walk-same (goodIn (s .ndim) count) (goodRow s) same (table l)) ∙ told
         where
-          same : (r : Row) → goodIn n count r ≡ goodRow s r
-          same r = rw (← a, c) (sym (good-split s (divided s f .axes) r))
+          same : (r : Row) → goodIn (s .ndim) count r ≡ goodRow s r
+          same r = rw c (sym (good-split s (divided s f .axes) r))

@@ -8,7 +8,7 @@ use mathlib.Core.List.{List, [], _∷_, map}
 use mathlib.Core.Option.{Option, none, some, Option·some-ne-none, Option·some-injective}
 use lib.ListN.{length, take}
 use Rattle.basics.specs.Lists.{all}
-use Rattle.basics.specs.Refusals.{fault, code, answer}
+use Rattle.basics.specs.Refusals.{fault, isNone, code, answer}
 use Rattle.basics.proofs.Bools.{by-test}
 use Rattle.table.specs.declared.Row.{Row}
 use Rattle.table.specs.Rows.{Slot, slotOf, chain, sorted}
@@ -18,7 +18,7 @@ use Rattle.grid_search.specs.Sheet.{sheetOk}
 use Rattle.rows.specs.Damage.{goodRow, soundRows, sound, libraryTests}
 use Rattle.rows.specs.Check.{above, Walk, walkFrom, walk, checkTests, checking, walked}
 use Rattle.rows.specs.declared.Walked.{Walked}
-use Rattle.rows.specs.Claims.{noneTold, Told, damage, SameDamage}
+use Rattle.rows.specs.Claims.{Told, damage, SameDamage}
 
 module _ (good : Row → Bool) where
   -- ---- a row is told exactly if one is bad by itself or out of order
@@ -33,15 +33,16 @@ module _ (good : Row → Bool) where
   after-cons none q qs = refl
   after-cons (some p) q qs = refl
 
-  told-from : (n : ℕ) (o : Option Slot) (rows : List Row) → noneTold (walkFrom good n o rows .bad) ≡ (all good rows && after o (map slotOf rows))
-  unfolding noneTold walkFrom all after sorted chain
+  told-from : (n : ℕ) (o : Option Slot) (rows : List Row) → isNone (walkFrom good n o rows .bad) ≡ (all good rows && after o (map slotOf rows))
+  unfolding isNone walkFrom all after sorted chain
   told-from n none [] = refl
   told-from n (some p) [] = refl
   told-from n o (r ∷ rows) =
       step (good r) (above o (slotOf r)) (walkFrom good (suc n) (some (slotOf r)) rows) (all good rows) (chain (slotOf r) (map slotOf rows)) (told-from (suc n) (some (slotOf r)) rows)
       ∙ ap (λ (b : Bool). (good r && all good rows) && b) (sym (after-cons o (slotOf r) (map slotOf rows)))
     where
-      step : (g a : Bool) (rest : Walk) (x y : Bool) → noneTold (rest .bad) ≡ (x && y) → noneTold ((cond (g && a) rest (record { bad = some n; visited = suc n })) .bad) ≡ ((g && x) && (a && y))
+      step : (g a : Bool) (rest : Walk) (x y : Bool) → isNone (rest .bad) ≡ (x && y)
+          → isNone ((cond (g && a) rest (record { bad = some n; visited = suc n })) .bad) ≡ ((g && x) && (a && y))
       step false a rest x y h = refl
       step true false rest x y h = sym (and-false x)
       step true true rest x y h = h
@@ -87,7 +88,7 @@ module _ (good : Row → Bool) where
 -- ---- the claims
 
 module _ (s : GridSearch) (rows : List Row) where
-  exactly : noneTold (walk (goodRow s) rows .bad) ≡ soundRows s rows
+  exactly : isNone (walk (goodRow s) rows .bad) ≡ soundRows s rows
   unfolding walk soundRows after
   exactly = told-from (goodRow s) 0 none rows
 
@@ -96,17 +97,20 @@ module _ (s : GridSearch) (rows : List Row) where
   first i e = lowest (goodRow s) 0 none rows i e
 
 pub told : Told
-unfolding walk noneTold
+unfolding walk isNone
 told s rows =
     record {
       exactly = exactly s rows;
       among = λ i e. subst (λ (j : ℕ). j < length rows) (at i e) (first s rows i e .among);
-      sound-before = λ i e. sym (exactly s (take i rows)) ∙ ap noneTold (subst (λ (j : ℕ). walkFrom (goodRow s) 0 none (take j rows) .bad ≡ none) (at i e) (first s rows i e .good-before));
-      unsound-with = λ i e. sym (exactly s (take (suc i) rows)) ∙ ap noneTold (subst (λ (j : ℕ). walkFrom (goodRow s) 0 none (take (suc j) rows) .bad ≡ some i) (at i e) (first s rows i e .bad-with));
+      sound-before = λ i e. sym (exactly s (take i rows)) ∙ ap isNone (subst (λ (j : ℕ). upTo j ≡ none) (at i e) (first s rows i e .good-before));
+      unsound-with = λ i e. sym (exactly s (take (suc i) rows)) ∙ ap isNone (subst (λ (j : ℕ). upTo (suc j) ≡ some i) (at i e) (first s rows i e .bad-with));
       visited-to = λ i e. first s rows i e .counted;
       visited-all = λ e. omega (arith, to-the-end (goodRow s) 0 none rows e);
     }
   where
+    upTo : ℕ → Option ℕ
+    upTo j = walkFrom (goodRow s) 0 none (take j rows) .bad
+
     at : (i : ℕ) (e : walk (goodRow s) rows .bad ≡ some i) → first s rows i e .index ≡ i
     at i e = omega (arith, first s rows i e .number)
 

@@ -3,23 +3,33 @@
 use Prim.Native.Nat.{ℕ, zero, suc, _+_, _%_, _^_, _≤_, _<_}
 use native.Mathlib.Numerals.{add-one}
 use native.Mathlib.Omega.{arith}
-use mathlib.Core.Path.{_≡_, refl, sym, _∙_}
+use mathlib.Core.Path.{_≡_, refl, sym, ap, _∙_}
 use mathlib.Core.Bool.{Bool, true, false, cond, _&&_, and-false, and-comm, or-false}
 use mathlib.Core.List.{List, [], _∷_}
 use mathlib.Core.Option.{Option, none, some}
 use lib.Dec.{ltb, leb, leb·zero, leb·suc-suc}
 use lib.ListN.{length, drop, drop-of-length-le}
 use lib.Ieee.{Float}
-use borrow.Author.Tests.{ltb-true}
+use borrow.Author.Tests.{ltb-true, eq-eqb, ne-eqb}
+use Rattle.basics.specs.Refusals.{Answer, success}
 use Rattle.basics.proofs.Bools.{by-test, and-left, and-right}
 use Rattle.basics.proofs.Lists.{drop-tab}
 use Rattle.basics.proofs.Numbers.{at-most}
+use Rattle.geometry.specs.Position.{coordinate}
 use Rattle.table.specs.declared.Row.{Row}
 use Rattle.table.specs.Rows.{Slot, slotted, slotOf, before}
 use Rattle.table.specs.Library.{Library, rowAt, rowsOf, table}
 use Rattle.table.proofs.Libraries.{length-table}
-use Rattle.rows.specs.Check.{above, walkFrom, walk}
-use Rattle.rows.specs.Posts.{third, goodParts, slotBefore}
+use Rattle.rows.specs.Check.{above, Walk, walkFrom, walk}
+use Rattle.rows.specs.Posts.{plusZero, third, goodParts, goodIn, slotBefore}
+
+-- ---- the third coordinate
+
+pub flat-third : (n : ℕ) (z : Float) → n ≡ 2 → third n z ≡ plusZero z
+flat-third n z e = rw (eq-eqb n 2 e)
+
+pub solid-third : (n : ℕ) (z : Float) → (n ≡ 2 → ⊥) → third n z ≡ coordinate z
+solid-third n z h = rw (ne-eqb n 2 h)
 
 -- ---- a row and the one before it
 
@@ -86,3 +96,7 @@ from-same p q h n o (r ∷ rows) = rw (h r, from-same p q h (suc n) (some (slotO
 pub walk-same : (p q : Row → Bool) → ((r : Row) → p r ≡ q r) → (rows : List Row) → walk p rows ≡ walk q rows
 unfolding walk
 walk-same p q h rows = from-same p q h 0 none rows
+
+-- a walk of so many axes, by their number
+pub on-axes : (count : ℕ) (rows : List Row) {n m : ℕ} {r : Answer Walk} → n ≡ m → r ≡ success (walk (goodIn m count) rows) → r ≡ success (walk (goodIn n count) rows)
+on-axes count rows e w = w ∙ sym (ap (λ (k : ℕ). success (walk (goodIn k count) rows)) e)

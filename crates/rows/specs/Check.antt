@@ -25,7 +25,8 @@ pub record Walk : Type 0 where
   pub bad : Option ℕ
   pub visited : ℕ
 
--- The walk from row n on, n rows having been visited; p is the slot of the row before, if there is one. Each row is visited once, and the first that is bad by itself or does not stand above the one before it is told and ends the walk.
+-- The walk from row n on, n rows having been visited; p is the slot of the row before, if there is one.
+-- Each row is visited once. The first that is bad by itself or does not stand above the one before it is told and ends the walk.
 unfoldable pub walkFrom : (Row → Bool) → ℕ → Option Slot → List Row → Walk
 unfolding above
 walkFrom good n p [] = record { bad = none; visited = n }

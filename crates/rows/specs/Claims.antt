@@ -2,26 +2,21 @@
 -- Assumes nothing.
 use Prim.Native.Nat.{ℕ, suc, _<_}
 use mathlib.Core.Path.{_≡_}
-use mathlib.Core.Bool.{Bool, true, false, cond}
+use mathlib.Core.Bool.{true, false, cond}
 use mathlib.Core.List.{List}
-use mathlib.Core.Option.{Option, none, some}
+use mathlib.Core.Option.{none, some}
 use lib.ListN.{length, take}
-use Rattle.basics.specs.Refusals.{fault, code, Answer, refused, success}
+use Rattle.basics.specs.Refusals.{fault, isNone, code, Answer, refused, success}
 use Rattle.grid_search.specs.declared.GridSearch.{GridSearch}
 use Rattle.table.specs.declared.Row.{Row}
 use Rattle.table.specs.Library.{Library}
 use Rattle.rows.specs.Damage.{goodRow, soundRows, libraryTests}
 use Rattle.rows.specs.Check.{Walk, walk, checking}
 
--- no row is told
-unfoldable pub noneTold : Option ℕ → Bool
-noneTold none = true
-noneTold (some i) = false
-
 -- What the walk tells of rows, in the words of 13 (`soundRows`).
 pub record Telling (s : GridSearch) (rows : List Row) (w : Walk) : Type 0 where
   -- 13 holds of the rows exactly if a row is told
-  pub exactly : noneTold (w .bad) ≡ soundRows s rows
+  pub exactly : isNone (w .bad) ≡ soundRows s rows
   -- the row told is one of them; those before it are sound, and with it they are not
   pub among : (i : ℕ) → w .bad ≡ some i → i < length rows
   pub sound-before : (i : ℕ) → w .bad ≡ some i → soundRows s (take i rows) ≡ true
@@ -35,9 +30,9 @@ Told = (s : GridSearch) (rows : List Row) → Telling s rows (walk (goodRow s) r
 
 -- the number that a check's answer stands for in other calls: its refusal, or 13 where a row is told, or 0
 unfoldable pub damage : Answer Walk → ℕ
-unfolding noneTold
+unfolding isNone
 damage (refused n) = n
-damage (success w) = cond (noneTold (w .bad)) 0 13
+damage (success w) = cond (isNone (w .bad)) 0 13
 
 -- Every other call turns a library away with 24 and 13 as the check does, and with 13 also where the check tells a row.
 abbrev pub SameDamage : Type 0

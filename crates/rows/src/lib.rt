@@ -89,8 +89,8 @@ fn is_third(ndim: usize, z: f64) -> bool
     }
 }
 
-// Whether a row is good by itself and stands above the one before it, which is told as `is_above` has it. No test is written
-// as a choice, and of this order the compiler makes the fewest instructions: a jump for each test.
+// Whether a row is good by itself and stands above the one before it, which is told as `is_above` has it. The tests are joined
+// by `&`, in the order of which the compiler makes the fewest instructions.
 fn is_good(
     ndim: usize,
     count: u64,
@@ -144,6 +144,28 @@ fn walk_rows(
     Walked::Sound(visited)
 }
 
+// The same, for the compiler: the dimension is a number, so that it makes two loops of one text, in which no turn asks for it.
+fn walk_in(
+    ndim: usize,
+    count: u64,
+    keys: &[u64],
+    ids: &[u64],
+    xs: &[f64],
+    ys: &[f64],
+    zs: &[f64],
+    used: usize,
+) -> Walked
+    requires { ⌜ dimension ndim ≡ true ⌝ }
+    requires { ⌜ count ≤ 2 ^ 32 ⌝ ∗ ⌜ Room (lists (now keys) (now ids) (now xs) (now ys) (now zs)) used ⌝ }
+    ensures { λ r. ⌜ walked r ≡ success (walk (goodIn ndim count) (table (library (now (keys .entry)) (now (ids .entry)) (now (xs .entry)) (now (ys .entry)) (now (zs .entry)) used))) ⌝ }
+{
+    if ndim == 2 {
+        walk_rows(2, count, keys, ids, xs, ys, zs, used)
+    } else {
+        walk_rows(3, count, keys, ids, xs, ys, zs, used)
+    }
+}
+
 // Checks a library: the lowest row that breaks 13 by itself or is not above the row before it, or none, and how many rows
 // were visited, each once up to that row or the end. Refused with 24, or with 13 where the sheet is not the one its settings
 // give, the lists are of unequal length or the used count is above it. It is the check of every call that takes a library.
@@ -167,13 +189,9 @@ pub fn check_library(
     if !is_layout_sound(keys, ids, xs, ys, zs, used) {
         return Walked::Refused(13);
     }
-    let count = grid::container_count(sheet.ndim, sheet.ndiv);
-    // the dimension as a number: of one text the compiler then makes two loops, and no turn of them asks for the dimension
-    if sheet.ndim == 2 {
-        walk_rows(2, count, keys, ids, xs, ys, zs, used)
-    } else {
-        walk_rows(3, count, keys, ids, xs, ys, zs, used)
-    }
+    let ndim = sheet.ndim;
+    let count = grid::container_count(ndim, sheet.ndiv);
+    walk_in(ndim, count, keys, ids, xs, ys, zs, used)
 }
 
 // What turns a library away: 24, 13, or 0.

@@ -53,7 +53,9 @@ loop-again c =
     let good = goodIn (a .args .ndim) (a .args .count) in
     let passes = sym (c .before .is-good .ensures) ∙ not-false _ (c .if1 .left) in
     let on = goes-on good _ (l .loop .visited) (slotBefore (l .loop .bound) (l .loop .last)) (l .loop .inv .1) (omega arith) passes in
-    (omega arith, on ∙ ap (λ (p : Option Slot). walkFrom good (l .loop .visited + 1) p (drop (l .loop .visited + 1) (table (library (a .args .keys .now) (a .args .ids .now) (a .args .xs .now) (a .args .ys .now) (a .args .zs .now) (a .args .used))))) (sym (kept _ _)))
+    let next = l .loop .visited + 1 in
+    let rest = drop next (table (library (a .args .keys .now) (a .args .ids .now) (a .args .xs .now) (a .args .ys .now) (a .args .zs .now) (a .args .used))) in
+    (omega arith, on ∙ ap (λ (p : Option Slot). walkFrom good next p rest) (sym (kept _ _)))
 
 returns-2 : tie.Need-returns-2 Inv-loop μ-loop
 returns-2 c =
