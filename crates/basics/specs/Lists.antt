@@ -52,6 +52,11 @@ unfoldable pub has : ℕ → List ℕ → Bool
 has i [] = false
 has i (j ∷ js) = eqb j i || has i js
 
+-- how many from the front are others than i: where the first i stands
+unfoldable pub leading : ℕ → List ℕ → ℕ
+leading i [] = 0
+leading i (j ∷ js) = let rest = leading i js in cond (eqb j i) 0 (suc rest)
+
 -- i in its place in an ascending list, once
 unfoldable pub enter : ℕ → List ℕ → List ℕ
 enter i [] = i ∷ []

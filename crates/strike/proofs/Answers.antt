@@ -15,7 +15,8 @@ use Rattle.basics.specs.Refusals.{fault, code, refused, success}
 use Rattle.basics.proofs.Refusals.{fault-stop, fault-right, code-some}
 use Rattle.grid_search.specs.declared.GridSearch.{GridSearch}
 use Rattle.table.specs.Rows.{idIn, own, without}
-use Rattle.strike.specs.Posts.{leading, Leaves, Strikes}
+use Rattle.basics.specs.Lists.{leading}
+use Rattle.strike.specs.Posts.{Leaves, Strikes}
 use Rattle.table.specs.Library.{Library, table, blank}
 use Rattle.table.specs.Posts.{Room}
 use Rattle.table.proofs.Ids.{length-parts}

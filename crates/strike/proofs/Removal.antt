@@ -16,7 +16,8 @@ use Rattle.basics.specs.Lists.{keep, tab, over}
 use Rattle.floats.specs.Rounded.{zeroF}
 use Rattle.table.specs.declared.Row.{Row}
 use Rattle.table.specs.Rows.{keyIn, idIn, xIn, yIn, zIn, rowOf, without}
-use Rattle.strike.specs.Posts.{leading, cleared, Leaves, two, Strikes, Lowered, LoweredTwo, Closed, clearedRows}
+use Rattle.basics.specs.Lists.{leading}
+use Rattle.strike.specs.Posts.{cleared, Leaves, two, Strikes, Lowered, LoweredTwo, Closed, clearedRows}
 use Rattle.table.specs.Library.{Library, library, rowAt, rowsOf, table, write, blank, lengths}
 use Rattle.table.specs.Posts.{Long, Room, eachOf, written}
 use Rattle.table.proofs.Ids.{length-without}

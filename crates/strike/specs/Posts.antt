@@ -5,16 +5,12 @@ use mathlib.Core.Bool.{cond}
 use mathlib.Core.List.{List, [], _∷_}
 use lib.Dec.{eqb}
 use lib.ListN.{getD, set, take}
+use Rattle.basics.specs.Lists.{leading}
 use Rattle.floats.specs.Rounded.{zeroF}
 use Rattle.table.specs.declared.Row.{Row}
 use Rattle.table.specs.Rows.{idIn, without}
 use Rattle.table.specs.Library.{Library, library, rowAt, rowsOf, table, write, blank, lengths}
 use Rattle.table.specs.Posts.{Room, eachOf, written}
-
--- how many of the ids from the front are others: where the first row of an id stands
-unfoldable pub leading : ℕ → List ℕ → ℕ
-leading i [] = 0
-leading i (j ∷ js) = cond (eqb j i) 0 (suc (leading i js))
 
 -- ---- one list: l with v from an index to its end
 

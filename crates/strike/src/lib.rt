@@ -10,7 +10,8 @@ ghost use Rattle.table.specs.Library.{library};
 ghost use Rattle.table.specs.Posts.{Room, lists};
 ghost use Rattle.rows.specs.Turn.{Gives};
 ghost use Rattle.strike.specs.Strike.{striking, struck, leftAfter};
-ghost use Rattle.strike.specs.Posts.{leading, Strikes, two, Lowered, LoweredTwo, Closed, cleared, clearedRows, Leaves};
+ghost use Rattle.basics.specs.Lists.{leading};
+ghost use Rattle.strike.specs.Posts.{Strikes, two, Lowered, LoweredTwo, Closed, cleared, clearedRows, Leaves};
 use grid_search::GridSearch;
 use table::ItemId;
 

@@ -6,7 +6,7 @@ use Prim.Native.Nat.{_+_, _-_, _≤_}
 use mathlib.Core.Path.{_≡_}
 use lib.ListN.{take, drop}
 use borrow.Author.Tests.{eq-eqb, ne-eqb}
-use Rattle.strike.specs.Posts.{leading}
+use Rattle.basics.specs.Lists.{leading}
 use Rattle.strike.proofs.Removal.{leading-step, leading-end}
 use Rattle.strike.proofs.first_with.Statement.{statement}
 use Rattle.strike.proofs.first_with.Tie as tie
