@@ -15,7 +15,7 @@ use mathlib.Core.Logic.{_⊎_, inl, inr}
 use Rattle.basics.proofs.Bools.{which, by-test}
 use Rattle.basics.specs.Lists.{over}
 use Rattle.basics.proofs.Stores.{sets-append, sets-front}
-use Rattle.text.specs.Text.{ascii, digit, decimalDigits, decimal, entryText, entries, listText, refusal, Put, Front}
+use Rattle.text.specs.Text.{numberFrom, numberOf, ascii, digit, decimalDigits, decimal, entryText, entries, listText, refusal, Put, Front}
 
 -- ---- texts in a buffer
 
@@ -94,15 +94,7 @@ decimal-step n h =
 
 -- Decimal says its number: the digits stand for n, and the first is no 0 but where n is 0.
 
-numberFrom : ℕ → List ℕ → ℕ
-numberFrom n [] = n
-numberFrom n (d ∷ ds) = numberFrom (n * 10 + (d - 48)) ds
-
--- the number that digits stand for
-pub numberOf : List ℕ → ℕ
-numberOf ds = numberFrom 0 ds
-
-number-more : (n : ℕ) (ds : List ℕ) (d : ℕ) → numberFrom n (ds ++ (d ∷ [])) ≡ numberFrom n ds * 10 + (d - 48)
+pub number-more : (n : ℕ) (ds : List ℕ) (d : ℕ) → numberFrom n (ds ++ (d ∷ [])) ≡ numberFrom n ds * 10 + (d - 48)
 unfolding numberFrom
 number-more n [] d = refl
 number-more n (e ∷ ds) d = number-more (n * 10 + (e - 48)) ds d
@@ -197,3 +189,9 @@ refusal-length ns = simp length-append (omega arith)
 pub refusal-short : (n : ℕ) → n < 2 ^ 64 → length (refusal (n ∷ [])) ≤ 29
 unfolding entries entryText
 refusal-short n h = omega (arith, refusal-length (n ∷ []), decimal-20 n h, length-append (decimal n) [])
+
+-- that of a number and what belongs to it
+pub refusal-of-two : (n m : ℕ) → n < 2 ^ 64 → m < 2 ^ 64 → length (refusal (n ∷ m ∷ [])) ≤ 50
+unfolding entries entryText
+refusal-of-two n m h k =
+    omega (arith, refusal-length (n ∷ m ∷ []), decimal-20 n h, decimal-20 m k, length-append (decimal n) ((ascii " " ++ decimal m) ++ []), length-append (ascii " " ++ decimal m) [])

@@ -1,6 +1,6 @@
 -- Text as the list of its bytes, in ASCII, and what a buffer holds once a text was put into it.
 -- Assumes nothing.
-use Prim.Native.Nat.{ℕ, zero, suc, _+_, _/_, _%_, _≤_}
+use Prim.Native.Nat.{ℕ, zero, suc, _+_, _-_, _*_, _/_, _%_, _≤_}
 use Prim.Native.Char.{code}
 use Prim.Native.String.{String}
 use Prim.Native.String as string
@@ -33,6 +33,16 @@ decimalDigits (suc k) false n = decimalDigits k (ltb (n / 10) 10) (n / 10) ++ (d
 unfoldable pub decimal : ℕ → List ℕ
 unfolding decimalDigits
 decimal n = decimalDigits (suc n) (ltb n 10) n
+
+-- the number that digits stand for, after those that stand for n
+unfoldable pub numberFrom : ℕ → List ℕ → ℕ
+numberFrom n [] = n
+numberFrom n (d ∷ ds) = numberFrom (n * 10 + (d - 48)) ds
+
+-- the number that digits stand for
+unfoldable pub numberOf : List ℕ → ℕ
+unfolding numberFrom
+numberOf ds = numberFrom 0 ds
 
 -- ---- numbers in a row, with a text between them
 
