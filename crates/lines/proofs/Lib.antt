@@ -1,0 +1,4 @@
+-- Laws of lines.
+pub mod Pieces
+pub mod Lines
+pub mod Examples
