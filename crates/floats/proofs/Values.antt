@@ -197,7 +197,7 @@ neg-units f q k = go (ltb (q * 2 ^ k) (2 ^ (low f + suc (emax f))))
     go true = neg-odd (suc (prec f)) q k (low f)
     go false = unfold neg in refl
 
-neg-round : (f : Format) (n d : ℕ) → neg (round f false n d) ≡ round f true n d
+pub neg-round : (f : Format) (n d : ℕ) → neg (round f false n d) ≡ round f true n d
 neg-round f n d =
     let N = n * 2 ^ low f in
     let k = size (N / d) - prec f in
