@@ -76,7 +76,7 @@ level-long n m (k ∷ ks) h e =
     let d = and-both (eqb k m) (all (λ (j : ℕ). eqb j m) ks) e in
     (omega (arith, eqb-true k m (d .0)), level-long n m ks h (d .1))
 
-long : (ns : List ℕ) (n : ℕ) → level ns ≡ true → fits ns n ≡ true → Long ns n
+pub long : (ns : List ℕ) (n : ℕ) → level ns ≡ true → fits ns n ≡ true → Long ns n
 unfolding level fits
 long [] n e f = tt
 long (m ∷ ms) n e f = let h = leb-true n m f in (h, level-long n m ms h e)
@@ -119,7 +119,7 @@ roomy-fewer s rows fewer h e = fits-fewer (s .rows) e
 -- ---- the front of a list written over
 
 module _ {A : Type 0} where
-  length-over : (new old : List A) → length new ≤ length old → length (over new old) ≡ length old
+  pub length-over : (new old : List A) → length new ≤ length old → length (over new old) ≡ length old
   unfolding over
   length-over new old h = simp (length-append, length-drop) (omega arith)
 

@@ -1,0 +1,2 @@
+-- Laws of marks in lent lists.
+pub mod Laws
