@@ -1,0 +1,2 @@
+-- Claims on point lists.
+pub mod Claims
