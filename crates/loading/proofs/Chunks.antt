@@ -124,45 +124,45 @@ none-left left t (refused m) n a e = absurd (let z : _≡_ {A = ℕ} 0 1 = cc in
 none-left none t (success m) n a e = refl
 none-left (some k) t (success m) n a e = absurd (let z : _≡_ {A = ℕ} 0 1 = cc in omega arith)
 
-module _ (s : GridSearch) where
-  pub insert-append : (l : Library) (rs qs : List (List ℕ))
-      → insertAll s l (rs ++ qs) ≡ andThen (insertAll s l rs) (insertAll s l rs .answer) (insertAll s (insertAll s l rs .library) qs)
-  unfolding insertAll
-  insert-append l [] qs = none-then l qs
-    where
-      none-then : (k : Library) (ps : List (List ℕ)) → insertAll s k ps ≡ andThen (record { library = k; answer = success (k .used) }) (success (k .used)) (insertAll s k ps)
-      none-then k ps = refl
-  insert-append l (r ∷ rs) qs =
-      let t = insertRecord s l r in
-      then-then t (insertAll s (t .library) rs) (λ k. insertAll s k qs) (insertAll s (t .library) (rs ++ qs)) (t .answer) refl (insert-append (t .library) rs qs)
+pub insert-append : {A : Type 0} (one : Library → A → Turn ℕ) (l : Library) (rs qs : List A)
+    → insertAll one l (rs ++ qs) ≡ andThen (insertAll one l rs) (insertAll one l rs .answer) (insertAll one (insertAll one l rs .library) qs)
+unfolding insertAll
+insert-append {A} one l [] qs = none-then l qs
+  where
+    none-then : (k : Library) (ps : List A) → insertAll one k ps ≡ andThen (record { library = k; answer = success (k .used) }) (success (k .used)) (insertAll one k ps)
+    none-then k ps = refl
+insert-append one l (r ∷ rs) qs =
+    let t = one l r in
+    then-then t (insertAll one (t .library) rs) (λ k. insertAll one k qs) (insertAll one (t .library) (rs ++ qs)) (t .answer) refl (insert-append one (t .library) rs qs)
 
-  pub bytes-are : (width : ℕ) (l : Library) (a : List ℕ) → insertBytes width s l a ≡ finish (leftover width a) (insertAll s l (recordsOf width a))
+module _ (s : GridSearch) where
+  pub bytes-are : (width : ℕ) (l : Library) (a : List ℕ) → insertBytes width s l a ≡ finish (leftover width a) (insertAll (insertRecord s) l (recordsOf width a))
   unfolding insertBytes
   bytes-are width l a = refl
 
   -- no bytes are left over: the turn is that of the marks
-  whole-records : (width : ℕ) (l : Library) (a : List ℕ) → length a % width ≡ 0 → insertBytes width s l a ≡ insertAll s l (recordsOf width a)
+  whole-records : (width : ℕ) (l : Library) (a : List ℕ) → length a % width ≡ 0 → insertBytes width s l a ≡ insertAll (insertRecord s) l (recordsOf width a)
   unfolding insertBytes finish unless
-  whole-records width l a e = rw (leftover-none width a e) (finish-none (insertAll s l (recordsOf width a)) (insertAll s l (recordsOf width a) .answer) refl)
+  whole-records width l a e = rw (leftover-none width a e) (finish-none (insertAll (insertRecord s) l (recordsOf width a)) (insertAll (insertRecord s) l (recordsOf width a) .answer) refl)
 
   -- bytes whose marks were all taken, with none left over, are whole records
   pub stored-whole : (width : ℕ) (l : Library) (a : List ℕ) (n : ℕ) → insertBytes width s l a .answer ≡ success n → length a % width ≡ 0
   unfolding insertBytes finish
   stored-whole width l a n e =
-      let t = insertAll s l (recordsOf width a) in
+      let t = insertAll (insertRecord s) l (recordsOf width a) in
       leftover-whole width a (none-left (leftover width a) t (t .answer) n refl e)
 
   -- a part that is whole records, then the rest of the file
   pub in-parts : (width : ℕ) → 0 < width → (l : Library) (a b : List ℕ) → length a % width ≡ 0
       → insertBytes width s l (a ++ b) ≡ andThen (insertBytes width s l a) (insertBytes width s l a .answer) (insertBytes width s (insertBytes width s l a .library) b)
   in-parts width w l a b e =
-      let t = insertAll s l (recordsOf width a) in
+      let t = insertAll (insertRecord s) l (recordsOf width a) in
       rw (
         bytes-are width l (a ++ b),
         leftover-rest width w a b e,
         records-append width w a b e,
-        insert-append l (recordsOf width a) (recordsOf width b),
+        insert-append (insertRecord s) l (recordsOf width a) (recordsOf width b),
         whole-records width l a e,
         bytes-are width (t .library) b,
       )
-      (finish-then (leftover width b) t (insertAll s (t .library) (recordsOf width b)) (t .answer) refl)
+      (finish-then (leftover width b) t (insertAll (insertRecord s) (t .library) (recordsOf width b)) (t .answer) refl)

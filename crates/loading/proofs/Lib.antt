@@ -1,4 +1,5 @@
 -- Laws of loading.
 pub mod Chunks
+pub mod InOrder
 pub mod Marks
 pub mod Sheets

@@ -57,11 +57,15 @@ sheetIn (some bytes) = sheetOfRecords bytes
 unfoldable pub recordsOf : ℕ → List ℕ → List (List ℕ)
 recordsOf width bytes = tab (length bytes / width) (λ i. take width (drop (i * width) bytes))
 
+-- a mark, at its place on the sheet's axes
+abbrev pub insertOne : GridSearch → Library → Record → Turn ℕ
+insertOne s l m = insertion s l (m .id) (placeOf (s .ndim) m)
+
 -- the mark of a record: 13 where the bytes are none
 unfoldable pub insertMark : GridSearch → Library → Answer Record → Turn ℕ
 unfolding insertion
 insertMark s l (refused n) = record { library = l; answer = refused n }
-insertMark s l (success r) = insertion s l (r .id) (placeOf (s .ndim) r)
+insertMark s l (success r) = insertOne s l r
 
 unfoldable pub insertRecord : GridSearch → Library → List ℕ → Turn ℕ
 unfolding insertMark reading
@@ -72,11 +76,11 @@ unfoldable pub andThen : Turn ℕ → Answer ℕ → Turn ℕ → Turn ℕ
 andThen t (refused n) next = t
 andThen t (success n) next = next
 
--- each record in order, up to the first that is turned away
-unfoldable pub insertAll : GridSearch → Library → List (List ℕ) → Turn ℕ
-unfolding andThen insertRecord
-insertAll s l [] = record { library = l; answer = success (l .used) }
-insertAll s l (r ∷ rs) = let t = insertRecord s l r in andThen t (t .answer) (insertAll s (t .library) rs)
+-- each in order, by the turn that one takes, up to the first that is turned away
+unfoldable pub insertAll : {A : Type 0} → (Library → A → Turn ℕ) → Library → List A → Turn ℕ
+unfolding andThen
+insertAll one l [] = record { library = l; answer = success (l .used) }
+insertAll one l (a ∷ rest) = let t = one l a in andThen t (t .answer) (insertAll one (t .library) rest)
 
 -- bytes past the last whole record: 13
 unfoldable pub leftover : ℕ → List ℕ → Option ℕ
@@ -89,10 +93,10 @@ unfolding andThen unless
 finish left t = andThen t (t .answer) (record { library = t .library; answer = unless left (t .answer) })
 
 unfoldable pub insertBytes : ℕ → GridSearch → Library → List ℕ → Turn ℕ
-unfolding finish leftover insertAll recordsOf
-insertBytes width s l bytes = finish (leftover width bytes) (insertAll s l (recordsOf width bytes))
+unfolding finish leftover insertAll insertRecord recordsOf
+insertBytes width s l bytes = finish (leftover width bytes) (insertAll (insertRecord s) l (recordsOf width bytes))
 
--- What is returned, and what the lists hold once bytes are inserted. After a refusal the rows in use are those of the marks before
+-- What is returned, and what the lists hold once several marks are inserted. After a refusal the rows in use are those of the marks before
 -- it: `lists` is the library at exit but for that count.
 abbrev pub Inserts : Turn ℕ → Inserted → (ℕ → Library) → Type 0
 Inserts t r lists = Gives t (inserted r) (lists (t .library .used))

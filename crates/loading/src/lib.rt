@@ -7,8 +7,8 @@ ghost use Rattle.geometry.specs.Position.{coords};
 ghost use Rattle.grid_search.specs.Sheet.{made};
 ghost use Rattle.table.specs.Library.{library};
 ghost use Rattle.rows.specs.Turn.{Gives};
-ghost use Rattle.rows.specs.Insert.{insertion, inserted, usedAfter};
-ghost use Rattle.loading.specs.Loading.{placeOf, sheetOfRecords, insertRecord, insertBytes, Inserts};
+ghost use Rattle.rows.specs.Insert.{inserted, usedAfter};
+ghost use Rattle.loading.specs.Loading.{sheetOfRecords, insertOne, insertRecord, insertBytes, Inserts};
 use grid_search::GivenF64;
 use grid_search::GivenU64;
 use grid_search::GridSearch;
@@ -49,8 +49,8 @@ fn floats_read(ndim: usize) -> usize
     if ndim < 3 { ndim } else { 3 }
 }
 
-// Inserts the mark of a record. In 2D its third float is not read.
-fn insert_mark(
+// Inserts a mark. In 2D its third float is not read.
+pub fn insert_mark(
     sheet: GridSearch,
     keys: &mut [u64; 1024],
     ids: &mut [u64; 1024],
@@ -60,7 +60,7 @@ fn insert_mark(
     used: usize,
     mark: Record,
 ) -> Inserted
-    ensures { λ r. ⌜ Gives (insertion sheet (library (now (keys .entry)) (now (ids .entry)) (now (xs .entry)) (now (ys .entry)) (now (zs .entry)) used) (mark .id) (placeOf (sheet .ndim) mark))
+    ensures { λ r. ⌜ Gives (insertOne sheet (library (now (keys .entry)) (now (ids .entry)) (now (xs .entry)) (now (ys .entry)) (now (zs .entry)) used) mark)
         (inserted r) (library (now (keys .exit)) (now (ids .exit)) (now (xs .exit)) (now (ys .exit)) (now (zs .exit)) (usedAfter r used)) ⌝ }
 {
     let x = [mark.x, mark.y, mark.z];

@@ -15,17 +15,13 @@ use Rattle.grid_search.specs.declared.GridSearch.{GridSearch}
 use Rattle.table.specs.Library.{Library, table}
 use Rattle.rows.specs.Damage.{libraryTests}
 use Rattle.rows.proofs.Check.{whole, in-order, divided}
-use Rattle.text.specs.Text.{refusal, Put, Front}
-use Rattle.text.proofs.Laws.{over-front, put-front, refusal-short}
+use Rattle.text.specs.Text.{refusal, Front}
+use Rattle.text.proofs.Laws.{over-front}
 use Rattle.display.specs.declared.Shown.the-variants.{Length, Refused}
 use Rattle.display.specs.Display.{displayText, displayTests, showing, Shows}
 use Rattle.display.proofs.Answers.{text-of-slots}
 use Rattle.display.proofs.Bounds.{whole-most}
 use Rattle.outcome.specs.Outcome.{textOr, libraryText}
-
--- a refusal's line is short
-pub refusal-front : (n : ℕ) {entry exit : List ℕ} {r : ℕ} → Put (refusal (n ∷ [])) entry 0 exit r → n < 2 ^ 64 → 29 ≤ length entry → Front (refusal (n ∷ [])) exit r
-refusal-front n p h room = put-front p (omega (arith, refusal-short n h))
 
 module _ (s : GridSearch) (l : Library) (buffer exit : List ℕ) where
   abbrev text : List ℕ

@@ -18,6 +18,14 @@ pub fn put_refused(number: u64, text: &mut [u8; 70804]) -> usize
     text::put_refusal(text, 0, &numbers)
 }
 
+// The same where a line of the input belongs to it.
+pub fn put_refused_at(number: u64, line: u64, text: &mut [u8; 70804]) -> usize
+    ensures { λ r. ⌜ Front (refusal (number ∷ line ∷ [])) (now (text .exit)) r ⌝ }
+{
+    let numbers = [number, line];
+    text::put_refusal(text, 0, &numbers)
+}
+
 // The text of a library of at most 1,024 rows: a row takes at most 69 bytes of it and the summary 148, so that it fits.
 fn put_library(
     sheet: GridSearch,

@@ -4,17 +4,18 @@
 use Prim.Native.Nat.{_-_, _*_, _+_, _≤_, _<_, _/_}
 use native.Mathlib.Nat.{add-sub-cancel-left, div-mul-le-self, div-le-self}
 use native.Mathlib.Omega.{arith}
-use mathlib.Core.Path.{refl}
 use lib.ListN.{length}
 use borrow.Author.Needs.{needs}
 use Rattle.table.specs.Library.{library}
+use Rattle.loading.specs.Loading.{insertRecord}
 use Rattle.loading.proofs.Chunks.{record-inside}
-use Rattle.loading.proofs.Marks.{Going, goes-on, stops, all-stored, left-over}
+use Rattle.loading.proofs.InOrder.{starts, goes-on, stops}
+use Rattle.loading.proofs.Marks.{recordFrom, of-part, GoingOn, stopped, all-stored, left-over}
 use Rattle.loading.proofs.insert_records.Statement.{statement}
 use Rattle.loading.proofs.insert_records.Tie as tie
 
 abbrev Inv-loop : tie.InvT-loop
-Inv-loop sheet keys₀ ids₀ xs₀ ys₀ zs₀ used bytes width count rows₀ i₀ keys ids xs ys zs rows i = Going width sheet bytes (library keys₀ ids₀ xs₀ ys₀ zs₀ used) (library keys ids xs ys zs rows) i
+Inv-loop sheet keys₀ ids₀ xs₀ ys₀ zs₀ used bytes width count rows₀ i₀ keys ids xs ys zs rows i = GoingOn width sheet bytes (library keys₀ ids₀ xs₀ ys₀ zs₀ used) (library keys ids xs ys zs rows) i
 
 abbrev μ-loop : tie.MeasureT-loop
 μ-loop sheet keys₀ ids₀ xs₀ ys₀ zs₀ used bytes width count rows₀ i₀ keys ids xs ys zs rows i = count - i
@@ -23,7 +24,9 @@ count-records-requires : tie.Need-count-records-requires Inv-loop μ-loop
 count-records-requires c κs = search needs
 
 loop-holds : tie.Need-loop-holds Inv-loop μ-loop
-loop-holds c = record { upto = omega arith; ahead = refl }
+loop-holds c =
+    let a = c .before .before .args in
+    starts (insertRecord (a .sheet)) (length (a .bytes .now) / a .width) (recordFrom (a .width) (a .bytes .now)) (library (a .keys .now) (a .ids .now) (a .xs .now) (a .ys .now) (a .zs .now) (a .used))
 
 -- there is a record at i, and it is inside
 taken : (c : tie.In-loop Inv-loop μ-loop) → c .before .loop .i < length (c .before .before .before .before .args .bytes .now) / c .before .before .before .before .args .width
@@ -62,10 +65,14 @@ returns c =
     let turn = c .before .before .before .before .before .before .before .before .before .before in
     let a = start .args in
     let l = turn .loop in
-    stops (a .width) (a .sheet) (a .bytes .now) (library (a .keys .now) (a .ids .now) (a .xs .now) (a .ys .now) (a .zs .now) (a .used))
-    (library (l .keys) (l .ids) (l .xs) (l .ys) (l .zs) (l .rows))
-    (l .i) (l .inv) (taken (c .before .before .before .before .before .before .before .before .before)) (l .rows) _ (add-sub-cancel-left (l .i * a .width) (a .width))
-    (c .before .before .insert-record .result) (c .before .before .insert-record .ensures) (c .enum-told .given .0 .0) (c .enum-told .given .1)
+    let l₀ = library (a .keys .now) (a .ids .now) (a .xs .now) (a .ys .now) (a .zs .now) (a .used) in
+    let here = library (l .keys) (l .ids) (l .xs) (l .ys) (l .zs) (l .rows) in
+    let one = c .before .before .insert-record in
+    let n = c .enum-told .given .0 .0 in
+    let t = of-part (add-sub-cancel-left (l .i * a .width) (a .width)) (a .sheet) here (a .bytes .now) (l .i) (one .ensures) in
+    rw (c .enum-told .given .1)
+    (stopped (a .width) (a .sheet) (a .bytes .now) l₀ n
+    (stops (insertRecord (a .sheet)) _ (recordFrom (a .width) (a .bytes .now)) l₀ here (l .i) (l .inv) (taken (c .before .before .before .before .before .before .before .before .before)) (l .rows) (one .result) t n (c .enum-told .given .1)))
 
 add-i : tie.Need-add-i Inv-loop μ-loop
 add-i c =
@@ -81,10 +88,11 @@ loop-again c =
     let turn = c .before .before .before .before .before .before .before .before .before .before .before in
     let a = start .args in
     let l = turn .loop in
-    goes-on (a .width) (a .sheet) (a .bytes .now) (library (a .keys .now) (a .ids .now) (a .xs .now) (a .ys .now) (a .zs .now) (a .used))
-    (library (l .keys) (l .ids) (l .xs) (l .ys) (l .zs) (l .rows))
-    (l .i) (l .inv) (taken (c .before .before .before .before .before .before .before .before .before .before)) (l .rows) _ (add-sub-cancel-left (l .i * a .width) (a .width))
-    (c .before .before .before .insert-record .result) (c .before .before .before .insert-record .ensures) (c .before .answer .given .0 .0) (c .before .answer .given .1)
+    let here = library (l .keys) (l .ids) (l .xs) (l .ys) (l .zs) (l .rows) in
+    let one = c .before .before .before .insert-record in
+    let t = of-part (add-sub-cancel-left (l .i * a .width) (a .width)) (a .sheet) here (a .bytes .now) (l .i) (one .ensures) in
+    goes-on (insertRecord (a .sheet)) _ (recordFrom (a .width) (a .bytes .now)) (library (a .keys .now) (a .ids .now) (a .xs .now) (a .ys .now) (a .zs .now) (a .used))
+    here (l .i) (l .inv) (taken (c .before .before .before .before .before .before .before .before .before .before)) (l .rows) (one .result) t (c .before .answer .given .0 .0) (c .before .answer .given .1)
 
 mul-if1 : tie.Need-mul-if1 Inv-loop μ-loop
 mul-if1 c = rw (c .before .before .count-records .ensures) (omega (arith, div-mul-le-self (length (c .before .before .before .before .args .bytes .now)) (c .before .before .before .before .args .width)))

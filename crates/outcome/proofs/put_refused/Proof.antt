@@ -4,8 +4,7 @@ use native.Mathlib.Omega.{arith}
 use mathlib.Core.Path.{_≡_}
 use lib.ListN.{length}
 use borrow.Author.Needs.{needs}
-use Rattle.text.proofs.Laws.{refusal-short}
-use Rattle.outcome.proofs.Texts.{refusal-front}
+use Rattle.text.proofs.Laws.{put-front, refusal-short}
 use Rattle.outcome.proofs.put_refused.Statement.{statement}
 use Rattle.outcome.proofs.put_refused.Tie as tie
 
@@ -17,8 +16,9 @@ put-refusal-requires c κs = omega (arith, refusal-short (c .before .before .arg
 
 returns : tie.Need-returns
 returns c =
-    let room : 70804 ≡ length (c .before .before .before .args .text .now) = search needs in
-    refusal-front (c .before .before .before .args .number) (c .put-refusal .ensures) (c .before .before .before .fits .number .fits) (omega (arith, room))
+    let s = c .before .before .before in
+    let room : 70804 ≡ length (s .args .text .now) = search needs in
+    put-front (c .put-refusal .ensures) (omega (arith, refusal-short (s .args .number) (s .fits .number .fits), room))
 
 pub put-refused-spec : {M : Type 1} → statement M
 put-refused-spec = tie.close (tie.spec slice-aggregate-put-refusal put-refusal-requires returns)
