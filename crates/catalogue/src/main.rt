@@ -58,6 +58,8 @@ fn put_text(text: &mut [u8; 70804]) -> usize
 fn main() {
     let mut text = [0u8; 70804];
     let n = put_text(&mut text);
-    let written = files::write_part(true, &text[..n]);
-    files::complain(written, b"catalogue: the text could not be written whole\n");
+    files::write_text(
+        &text[..n],
+        b"catalogue: the text could not be written whole\n",
+    );
 }

@@ -18,7 +18,8 @@ use Rattle.rows.specs.Turn.{Turn}
 use Rattle.rows.specs.Insert.{inserted}
 use Rattle.loading.specs.Loading.{recordsOf, leftover, insertBytes, Inserts}
 use Rattle.loading.proofs.Chunks.{in-parts, stored-whole, whole-append}
-use Rattle.loading.proofs.Marks.{then-success, bytes-used}
+use Rattle.loading.proofs.InOrder.{then-success}
+use Rattle.loading.proofs.Marks.{bytes-used}
 use Rattle.files.specs.declared.Part.{Part}
 use Rattle.files.specs.declared.Part.the-variants.{More, Last, Refused}
 use Rattle.files.specs.Files.{allCame, partLength, partOf, marksAnswer}

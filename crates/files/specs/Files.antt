@@ -1,5 +1,5 @@
--- What a program knows of a file once it is read: what opening it answered, the bytes that came, and what reading on after them
--- answered. From these alone it is decided what the file holds.
+-- What a program knows of a file or of standard input once it is read: what opening it answered, the bytes that came, and what
+-- reading on after them answered. From these alone it is decided what it holds.
 -- Assumes nothing.
 use Prim.Native.Nat.{ℕ, _*_, _/_}
 use mathlib.Core.Bool.{Bool, false, cond, _&&_}
@@ -10,6 +10,8 @@ use lib.IntN.{ℤ, pos, negsuc}
 use lib.ListN.{length}
 use lib.Signed.{nonNeg}
 use Rattle.basics.specs.Refusals.{Answer, refused, success}
+use Rattle.files.specs.declared.Input.{Input}
+use Rattle.files.specs.declared.Input.the-variants.{Whole, Longer, Unreadable}
 use Rattle.files.specs.declared.Part.{Part}
 use Rattle.files.specs.declared.Part.the-variants.{More, Last, Refused}
 
@@ -41,6 +43,18 @@ partOf came asked (success rows) = cond (ltb came asked) (Last rows) (More rows)
 unfoldable pub marksAnswer : ℤ → ℤ → ℕ → Answer ℕ
 unfolding allCame
 marksAnswer opened after rows = cond (allCame opened after) (success rows) (refused 13)
+
+-- What standard input holds, where so many bytes came of those that were asked for. Bytes that follow fewer than those say that
+-- reading failed before.
+unfoldable pub inputOf : ℕ → ℕ → ℤ → Input
+unfolding isEnd
+inputOf came asked after = cond (isEnd after) (Whole came) (cond (nonNeg after && eqb came asked) Longer Unreadable)
+
+-- document 01's number for each answer: more bytes than are held are 12, and input that cannot be read is 13, as a file is
+abbrev pub inputAnswer : Input → Answer ℕ
+inputAnswer (Whole n) = success n
+inputAnswer Longer = refused 12
+inputAnswer Unreadable = refused 13
 
 -- how much of a complaint is said: all of it where the text was not written whole, and else nothing
 unfoldable pub said : Bool → List ℕ → ℕ

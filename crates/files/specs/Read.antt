@@ -15,6 +15,9 @@ use Rattle.rows.specs.declared.Inserted.the-variants as insert
 use Rattle.table.specs.Library.{Library}
 use Rattle.rows.specs.Insert.{inserted}
 use Rattle.loading.specs.Loading.{sheetIn, insertBytes, Inserts}
+use Rattle.io.specs.Counts.{Counts}
+use Rattle.files.specs.declared.Input.{Input}
+use Rattle.files.specs.declared.Input.the-variants.{Whole}
 use Rattle.files.specs.declared.Part.{Part}
 use Rattle.files.specs.declared.Part.the-variants.{More, Last, Refused}
 
@@ -22,6 +25,11 @@ use Rattle.files.specs.declared.Part.the-variants.{More, Last, Refused}
 pub record SheetRead (r : Made) : Type 0 where
   pub file : Option (List ℕ)
   pub is : made r ≡ sheetIn file
+
+-- the bytes of standard input that came stand at the front of a buffer of 131,072: what lending them asks for
+pub record Came (r : Input) (bytes : List ℕ) : Type 0 where
+  pub room : 131072 ≡ length bytes
+  pub front : (n : ℕ) → r ≡ Whole n → Counts n bytes
 
 -- ---- marks: `lists` is the library at exit but for the rows in use
 

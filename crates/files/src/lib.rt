@@ -1,4 +1,4 @@
-// Files that a program reads, and text that it writes. What a file holds is decided by what the calls on it answered, each
+// Files and standard input that a program reads, and text that it writes. What a file holds is decided by what the calls on it answered, each
 // decision in a function of its own with an exact contract; so a call is made whatever the one before it answered: where a file
 // cannot be opened, reading it fails too, and that is handed over.
 //
@@ -6,17 +6,17 @@
 // came answered: 0 at the end, the number of bytes where more follow, below 0 where it fails.
 ghost use Prim.Native.Nat.{_≤_, _<_};
 ghost use mathlib.Core.Path.{_≡_};
-ghost use mathlib.Core.Bool.{true};
 ghost use lib.ListN.{length, take};
 ghost use Rattle.grid_search.specs.Sheet.{made};
 ghost use Rattle.table.specs.Library.{library};
 ghost use Rattle.rows.specs.Insert.{inserted};
 ghost use Rattle.loading.specs.Loading.{sheetIn};
-ghost use Rattle.files.specs.Files.{allCame, content, partLength, partOf, marksAnswer, said};
-ghost use Rattle.files.specs.Read.{SheetRead, PartRead, MarksRead};
+ghost use Rattle.files.specs.Files.{allCame, content, partLength, partOf, marksAnswer, inputOf, said};
+ghost use Rattle.files.specs.Read.{SheetRead, PartRead, MarksRead, Came};
 use grid_search::GridSearch;
 use grid_search::Made;
 use libc::STDERR_FILENO;
+use libc::STDIN_FILENO;
 use libc::STDOUT_FILENO;
 use rows::Inserted;
 
@@ -26,6 +26,13 @@ pub enum Part {
     More(usize),
     Last(usize),
     Refused(u64),
+}
+
+// What standard input holds: this number of bytes; more than a program takes; or it cannot be read.
+pub enum Input {
+    Whole(usize),
+    Longer,
+    Unreadable,
 }
 
 // Whether the bytes that came are all of the file.
@@ -76,6 +83,20 @@ pub fn marks_answer(opened: i32, after: isize, rows: usize) -> Inserted
         return Inserted::Refused(13);
     }
     Inserted::Stored(rows)
+}
+
+// What standard input holds, where `came` bytes came of `asked` that were asked for. Where fewer came, reading failed or the input
+// ended: bytes that follow all the same say that it failed.
+pub fn input_of(came: usize, asked: usize, after: isize) -> Input
+    ensures { λ r. ⌜ r ≡ inputOf came asked after ⌝ }
+{
+    if after == 0 {
+        return Input::Whole(came);
+    }
+    if (after >= 0) & (came == asked) {
+        return Input::Longer;
+    }
+    Input::Unreadable
 }
 
 // How many bytes of a complaint are said: all of them where a text was not written whole, and else none.
@@ -183,18 +204,18 @@ pub fn insert_file(
     answer
 }
 
-// Writes a part of a text on standard output, unless an earlier part was not written whole. Answers whether all were.
-pub fn write_part(earlier: bool, text: &[u8]) -> bool
-    ensures { λ r. ⌜ (r ≡ true → earlier ≡ true) ⌝ }
+// Reads standard input into a buffer. Past what the buffer holds one byte is asked for, and no more.
+pub fn read_input(bytes: &mut [u8; 131072]) -> Input
+    ensures { λ r. ⌜ Came r (now (bytes .exit)) ⌝ }
 {
-    if !earlier {
-        return false;
-    }
-    io::write_all(STDOUT_FILENO, text)
+    let came = io::read_full(STDIN_FILENO, bytes);
+    let after = read_on(STDIN_FILENO);
+    input_of(came, 131072, after)
 }
 
-// Says on standard error where a text was not written whole.
-pub fn complain(written: bool, line: &[u8]) {
-    let n = said_of(written, line);
-    io::write_all(STDERR_FILENO, &line[..n]);
+// Writes a text on standard output, and says on standard error where it could not be written whole.
+pub fn write_text(text: &[u8], complaint: &[u8]) {
+    let written = io::write_all(STDOUT_FILENO, text);
+    let n = said_of(written, complaint);
+    io::write_all(STDERR_FILENO, &complaint[..n]);
 }
