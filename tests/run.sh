@@ -5,10 +5,15 @@ unset CDPATH
 cd "$(dirname "$0")/.."
 root=$PWD
 sample=$root/crates/catalogue/stdout
-said=$(./run 2>&1) || {
-    echo "$said"
-    exit 1
-}
+marks=$root/examples/marks.csv
+surveyed=$root/crates/survey/stdout
+for program in '' survey; do
+    # shellcheck disable=SC2086
+    said=$(./run $program 2>&1 <"$marks") || {
+        echo "$said"
+        exit 1
+    }
+done
 work=$(mktemp -d)
 trap 'rm -rf "$work"' EXIT
 cd "$work"
@@ -76,6 +81,30 @@ tell 'marks that are a folder' 0 refused "run: marks.bin in 'odd' cannot be read
 tell 'no space for the text' 1 nothing 'catalogue: the text could not be written whole' \
     sh -c "exec '$root/run' >/dev/full"
 
+# ---- the program survey
+
+tell 'a file' 0 "$surveyed" '' "$root/run" survey "$marks"
+cp "$marks" marks.csv
+cp "$marks" ./-marks
+tell 'a file beside' 0 "$surveyed" '' "$root/run" survey marks.csv
+tell 'a file whose name starts with -' 0 "$surveyed" '' "$root/run" survey -marks
+tell 'standard input' 0 "$surveyed" '' sh -c "exec '$root/run' survey <marks.csv"
+tell 'standard input by its name' 0 "$surveyed" '' sh -c "exec '$root/run' survey - <marks.csv"
+tell 'a pipe' 0 "$surveyed" '' sh -c "cat marks.csv | '$root/run' survey"
+echo 'refused 27 1' >malformed
+tell 'standard input with nothing in it' 0 malformed '' "$root/run" survey
+tell 'a file with nothing in it' 0 malformed '' "$root/run" survey nothing
+tell 'no such file' 1 nothing "run: there is no file 'nowhere'" "$root/run" survey nowhere
+tell 'a file without a name' 1 nothing "run: there is no file ''" "$root/run" survey ''
+tell 'a folder for a file' 1 nothing "run: 'plain' cannot be read" "$root/run" survey plain
+tell 'two files' 2 nothing 'usage: ./run [FOLDER]' "$root/run" survey marks.csv marks.csv
+tell 'no space for its text' 1 nothing 'survey: the text could not be written whole' \
+    sh -c "exec '$root/run' survey marks.csv >/dev/full"
+mkdir survey
+cp plain/*.bin survey
+tell 'a folder of that name' 0 "$sample" '' "$root/run" ./survey
+tell 'a folder of that name after --' 0 "$sample" '' "$root/run" -- survey
+
 # stand-ins for the kit: none, one that fails, and one that proves some crates anew
 tell 'no kit' 1 nothing 'run: the command rt' env PATH=/nowhere "$root/run"
 mkdir kit
@@ -91,7 +120,7 @@ echo 'rt: floats proved (13 s)' >shown
 for status in 0 1; do
     mkdir -p "copy$status/target/bin" "copy$status/crates"
     cp "$root/run" "copy$status"
-    cp "$root/target/bin/catalogue" "copy$status/target/bin"
+    cp "$root/target/bin/catalogue" "$root/target/bin/survey" "copy$status/target/bin"
     cp -R "$root/crates/catalogue" "copy$status/crates"
     echo $status >"copy$status/status"
 done
@@ -104,6 +133,9 @@ tell 'CDPATH and the sample' 0 "$sample" 'rt: floats' env PATH="$work/kit:$PATH"
 tell 'CDPATH and a folder' 0 "$sample" 'rt: floats' env PATH="$work/kit:$PATH" CDPATH="$work/elsewhere" copy0/run plain
 tell 'all that is said where a proof fails' 1 nothing 'fn floats::sqrt: proved' env PATH="$work/kit:$PATH" copy1/run
 tell 'that a proof failed' 1 nothing 'run: the catalogue is not proved' env PATH="$work/kit:$PATH" copy1/run
+
+tell 'what is proved of survey' 0 "$surveyed" 'rt: floats proved (13 s)' env PATH="$work/kit:$PATH" copy0/run survey marks.csv
+tell 'that a proof of survey failed' 1 nothing 'run: the program survey is not proved' env PATH="$work/kit:$PATH" copy1/run survey marks.csv
 
 rm copy0/target/bin/catalogue
 tell 'that minutes of proving start' 1 nothing 'run: proving the catalogue' env PATH="$work/kit:$PATH" copy0/run

@@ -1,0 +1,2 @@
+-- Laws of the text that is printed.
+pub mod Laws

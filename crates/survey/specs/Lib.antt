@@ -1,0 +1,2 @@
+-- The words of the program's contracts.
+pub mod Printed

@@ -1,0 +1,2 @@
+-- What the program `survey` prints, by what standard input holds.
+pub mod Surveyed
