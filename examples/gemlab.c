@@ -3,6 +3,7 @@
 
 #include <inttypes.h>
 #include <stdio.h>
+#include <string.h>
 
 /* What a call gave: its result, or the number of its refusal. */
 static void tell(const char *what, uint64_t number, double result)
@@ -347,6 +348,61 @@ static void cells(void)
     locate(3, 1);
 }
 
+/* The marks of a point list, into lists of which the first `room` entries are lent. */
+static void import(const char *text, size_t room)
+{
+    uint64_t numbers[3] = {0}, count = 0, line = 0;
+    double east[3] = {0}, north[3] = {0}, height[3] = {0};
+    uint64_t number = gemlab_survey_import((const uint8_t *)text, strlen(text), numbers, room, east, room, north, room,
+                                           height, room, &count, &line);
+
+    if (number == GEMLAB_MALFORMED) {
+        printf("import: refused %" PRIu64 " in line %" PRIu64 "\n", number, line);
+    } else if (number != GEMLAB_DONE) {
+        printf("import: refused %" PRIu64 ", line still %" PRIu64 "\n", number, line);
+    } else {
+        printf("import of %" PRIu64 " marks:", count);
+        for (uint64_t i = 0; i < count; i++) {
+            printf(" %" PRIu64 " at (%g,%g,%g)", numbers[i], east[i], north[i], height[i]);
+        }
+        printf("\n");
+    }
+}
+
+/* The text of these marks, into a buffer of which the first `room` bytes are lent. */
+static void export(const uint64_t *numbers, const double *east, const double *north, const double *height, uint64_t count,
+                   size_t room)
+{
+    uint8_t text[3 * GEMLAB_POINT_BYTES];
+    uint64_t length = 0;
+    uint64_t number = gemlab_survey_export(numbers, 3, east, 3, north, 3, height, 3, count, text, room, &length);
+
+    if (number != GEMLAB_DONE) {
+        printf("export: refused %" PRIu64 "\n", number);
+        return;
+    }
+    printf("export of %" PRIu64 " marks in %" PRIu64 " bytes\n", count, length);
+    fwrite(text, 1, (size_t)length, stdout);
+}
+
+static void point_lists(void)
+{
+    const uint64_t numbers[3] = {7, UINT64_MAX, 3};
+    const double east[3] = {1.5, -1048576, 0.1}, north[3] = {-0.5, 1048575.999, 0.1 + 0.2}, height[3] = {0, 0.001, 1};
+
+    import("7,1.5,-0.50,-0,post by the gate\r\n8,523.25,98.125,12,\n9,0,0,0,a stud", 3);
+    import("7,1.5,-0.50,-0,post by the gate\r\n8,523.25,98.125,12,\n9,0,0,0,a stud", 2);
+    import("7,1.5,-0.50,-0,post by the gate\r\n8,523.2500,98.125,12,\n9,0,0,0,a stud", 2);
+    import("7,1.5,-0.50,-0,post by the gate\r\n\n", 3);
+    import("", 3);
+    export(numbers, east, north, height, 2, 3 * GEMLAB_POINT_BYTES);
+    export(numbers, east, north, height, 2, 74);
+    export(numbers, east, north, height, 0, 0);
+    /* 0.1 + 0.2 is the double beside 0.3 */
+    export(numbers, east, north, height, 3, 3 * GEMLAB_POINT_BYTES);
+    export(numbers, east, north, height, 4, 3 * GEMLAB_POINT_BYTES);
+}
+
 int main(void)
 {
     distances();
@@ -354,6 +410,7 @@ int main(void)
     libraries();
     lists();
     full();
+    point_lists();
     cells();
     return 0;
 }

@@ -50,8 +50,10 @@ tried gemlab gemlab.stdout
 tried survey survey.expected
 tried edges edges.stdout
 tried cell_edges cell_edges.stdout
+tried text_edges text_edges.stdout
 tried threads threads.stdout
 checked gemlab gemlab.stdout
 checked survey survey.expected
 checked edges edges.stdout
 checked cell_edges cell_edges.stdout
+checked text_edges text_edges.stdout

@@ -19,8 +19,8 @@
 #define TETS (6 * CUBES * CUBES * CUBES)
 #define NODES ((CUBES + 1) * (CUBES + 1) * (CUBES + 1))
 
-/* What the threads read together: sheets in 2D and 3D, a full library on each, and meshes of triangles and of tetrahedra, each
-   with its index. */
+/* What the threads read together: sheets in 2D and 3D, a full library on each, meshes of triangles and of tetrahedra, each with
+   its index, and the longest point list with its text. */
 static uint64_t numbers[2][GEMLAB_SHEET_NUMBERS];
 static double floats[2][GEMLAB_SHEET_FLOATS];
 static uint64_t keys[MOST], ids[MOST];
@@ -37,6 +37,10 @@ static struct {
     uint64_t keys[MOST], cells[MOST], large[MOST], numbers[GEMLAB_CELLS_NUMBERS];
     double floats[GEMLAB_CELLS_FLOATS];
 } indexes[2];
+static uint64_t point_ids[MOST];
+static double point_at[MOST];
+static uint8_t point_text[MOST * GEMLAB_POINT_BYTES];
+static uint64_t point_length;
 
 /* What each thread has for itself: lists to write, and results. */
 struct own {
@@ -44,8 +48,9 @@ struct own {
     double xs[MOST], ys[MOST], zs[MOST];
     uint64_t numbers[GEMLAB_SHEET_NUMBERS];
     double floats[GEMLAB_SHEET_FLOATS];
-    uint64_t used, found, id, count, removed, broken, row, visited, returned;
+    uint64_t used, found, id, count, removed, broken, row, visited, line, length, returned;
     double distance, zeta[4];
+    uint8_t text[MOST * GEMLAB_POINT_BYTES];
 };
 static struct own *owns[THREADS];
 
@@ -215,6 +220,27 @@ static void list_many_3d(struct own *o)
     list_on(o, 3, GEMLAB_CYLINDER, low, axis, 1000, MOST);
 }
 
+static void import_text(struct own *o)
+{
+    o->returned = gemlab_survey_import(point_text, (size_t)point_length, o->ids, MOST, o->xs, MOST, o->ys, MOST, o->zs, MOST,
+                                       &o->used, &o->line);
+}
+
+/* The last line has a fifth comma. */
+static void import_bad(struct own *o)
+{
+    memcpy(o->text, point_text, (size_t)point_length);
+    o->text[point_length - 1] = ',';
+    o->returned = gemlab_survey_import(o->text, (size_t)point_length, o->ids, MOST, o->xs, MOST, o->ys, MOST, o->zs, MOST,
+                                       &o->used, &o->line);
+}
+
+static void export_marks(struct own *o)
+{
+    o->returned = gemlab_survey_export(point_ids, MOST, point_at, MOST, point_at, MOST, point_at, MOST, MOST, o->text,
+                                       sizeof o->text, &o->length);
+}
+
 static void build_on(struct own *o, size_t dim)
 {
     const struct mesh *m = &meshes[dim - 2];
@@ -279,6 +305,9 @@ static const struct call {
     {"a listing of 1,024 rows in 3D", list_few_3d, GEMLAB_STACK},
     {"a listing of 65,536 rows in 2D", list_many, GEMLAB_STACK_LISTING},
     {"a listing of 65,536 rows in 3D", list_many_3d, GEMLAB_STACK_LISTING},
+    {"an import of 65,536 lines", import_text, GEMLAB_STACK},
+    {"an import that tells a line", import_bad, GEMLAB_STACK},
+    {"an export of 65,536 marks", export_marks, GEMLAB_STACK},
     {"a cell build in 2D", build_2d, GEMLAB_STACK},
     {"a cell build in 3D", build_3d, GEMLAB_STACK},
     {"a cell search in 2D", locate_2d, GEMLAB_STACK},
@@ -355,8 +384,9 @@ static int tried(const struct call *call, int measure)
         free_area(&jobs[i].stack);
     }
     printf("%s: returned %" PRIu64 ", found %" PRIu64 ", listed %" PRIu64 ", removed %" PRIu64 ", visited %" PRIu64
-           ", on %d threads with %zu bytes left", call->name, owns[0]->returned, owns[0]->found, owns[0]->count,
-           owns[0]->removed, owns[0]->visited, THREADS, call->stack);
+           ", used %" PRIu64 ", line %" PRIu64 ", length %" PRIu64 ", on %d threads with %zu bytes left", call->name,
+           owns[0]->returned, owns[0]->found, owns[0]->count, owns[0]->removed, owns[0]->visited, owns[0]->used, owns[0]->line,
+           owns[0]->length, THREADS, call->stack);
     if (measure) {
         printf(", took %zu", most);
     }
@@ -424,6 +454,13 @@ static void prepare(void)
         xs[i] = 1000;
     }
     prepare_meshes();
+    /* every line is as long as it can be */
+    for (i = 0; i < MOST; i++) {
+        point_ids[i] = UINT64_MAX - i;
+        point_at[i] = -1048576 + (double)(i % 1000) / 1000;
+    }
+    gemlab_survey_export(point_ids, MOST, point_at, MOST, point_at, MOST, point_at, MOST, MOST, point_text, sizeof point_text,
+                         &point_length);
 }
 
 int main(int count, char **arguments)

@@ -15,7 +15,7 @@
  * Every function returns a uint64_t: 0 is success, any other value is the number of a refusal from
  * the table below. A call that could be refused for several reasons gives the first in the order
  * that stands with the function. A refusal writes nothing: every list, count and result that was
- * lent keeps its content.
+ * lent keeps its content, but for the *line of an import, which tells where 27 is.
  *
  *
  * How lists are passed
@@ -39,8 +39,10 @@
  * tolerance. Inserted again elsewhere, it takes as many again; struck off, it frees them all. A
  * cell takes at most GEMLAB_CELL_ROWS(ndim) rows, 4 in 2D and 8 in 3D. Large cells are at most the
  * part large_pct of the cells, rounded up; a list as long as the cells is always enough. A listing
- * has at most as many ids as rows are in use. Lists of these lengths are never refused for want of
- * room (12, 14); a list of rows has at most 65,536 (24).
+ * has at most as many ids as rows are in use. A point list has as many marks as lines, and a mark
+ * takes at most GEMLAB_POINT_BYTES bytes, 61, in an exported text. Lists of these lengths are never
+ * refused for want of room (12, 14); a list of rows or of marks has at most 65,536 entries (24). A
+ * text may have any length.
  *
  *
  * Threads and stack
@@ -101,11 +103,12 @@ extern "C" {
 #define GEMLAB_SIDE 10          /* the side of a container is at most twice the tolerance */
 #define GEMLAB_OUTSIDE 11       /* the position is outside the sheet or the index */
 #define GEMLAB_FULL 12          /* the call needs more new rows, or large-cell entries, than are
-                                   free */
+                                   free, or a text has more marks than its lists have entries */
 #define GEMLAB_DAMAGED 13       /* what was handed in is damaged: a sheet that is not the one its
                                    settings give, rows out of order, lists of unequal length, a
                                    count above its list, and the like */
-#define GEMLAB_SHORT 14         /* the lent list is shorter than the listing */
+#define GEMLAB_SHORT 14         /* the lent list is shorter than the listing, or the lent buffer
+                                   than the text */
 #define GEMLAB_CLOSE 15         /* the ends of a line, or of a cylinder's axis, are too close:
                                    the square of their distance is at most 2^-52 */
 #define GEMLAB_UNFIT 16         /* a circle in 3D, a cylinder or a plane in 2D, a filter on an
@@ -118,9 +121,13 @@ extern "C" {
 #define GEMLAB_PERCENTAGE 21    /* the percentage is outside 0 to 1 */
 #define GEMLAB_NO_EXTENT 22     /* no extent, or 0 divisions, on some axis */
 #define GEMLAB_ALL_LARGE 23     /* every cell is large, and the percentage keeps them so */
-#define GEMLAB_TOO_LONG 24      /* a lent list holds more than 65,536 points, cells or rows */
+#define GEMLAB_TOO_LONG 24      /* a lent list holds more than 65,536 points, cells, rows or
+                                   marks */
 #define GEMLAB_COORDINATES 25   /* the coordinate list is not of length 4 */
 #define GEMLAB_NO_ROW 26        /* the id that is to be struck off has no row */
+#define GEMLAB_MALFORMED 27     /* a line of the text is malformed */
+#define GEMLAB_NO_DECIMAL 28    /* a coordinate to export is not, bit for bit, the value of any
+                                   decimal that an import takes */
 
 /*
  * The most stack that a call takes below its caller's frame, in bytes: 8 KiB, and 144 KiB for a
@@ -134,6 +141,11 @@ extern "C" {
  */
 #define GEMLAB_MARK_ROWS(ndim) ((ndim) == 2 ? 5 : 9)
 #define GEMLAB_CELL_ROWS(ndim) ((ndim) == 2 ? 4 : 8)
+
+/*
+ * The most bytes that a mark takes in an exported text.
+ */
+#define GEMLAB_POINT_BYTES 61
 
 /*
  * Distances.
@@ -380,6 +392,70 @@ uint64_t gemlab_grid_search_list(const uint64_t *numbers, size_t numbers_len,
                                  uint64_t filter, uint64_t axis, double low, double high,
                                  uint64_t *list, size_t list_len,
                                  uint64_t *count);
+
+/*
+ * Point lists.
+ *
+ * Surveyors exchange marks as text, one mark a line:
+ *
+ *     number,easting,northing,height,description
+ *
+ * A line has four commas. The number is 1 to 20 digits, at most 2^64 - 1. A coordinate is an
+ * optional minus, 1 to 7 digits, and optionally a point with 1 to 3 digits; it is at most 1,048,576
+ * in magnitude, its decimals included. The description is up to 32 bytes from 32 to 126, none of
+ * them a comma. Nothing else stands in a line: no space or plus before a digit, no exponent. Zeros
+ * may stand in front, as long as the digits are not too many.
+ *
+ * A line ends in LF or in CR LF, and the last line may have no end. A text that ends in LF has no
+ * line after it. An empty line is malformed; so is a CR that is not directly before LF. An empty
+ * text is one empty line.
+ *
+ * A coordinate means its whole number of millimetres, divided once by 1,000: the double nearest to
+ * the decimal, as strtod gives it; -0 means +0.
+ *
+ * The marks stand in four lists of one length, ids, xs, ys and zs, in the order of the lines.
+ * gemlab reads and writes no such text.
+ */
+
+/*
+ * The marks of the text, into the front of the four lists; *used becomes how many they are, and
+ * what it held is not read. Entries past them stay. Descriptions are dropped. Where a line is
+ * malformed (27), *line becomes the number of the first such line, counted from 1; with any other
+ * answer it stays.
+ * Refusals: 24 (one of the four lists is longer than 65,536), 13 (the four lists differ in length),
+ * 27 (line 1 for an empty text), 12 (more lines than entries; every line is judged first).
+ */
+uint64_t gemlab_survey_import(const uint8_t *text, size_t text_len,
+                              uint64_t *ids, size_t ids_len,
+                              double *xs, size_t xs_len,
+                              double *ys, size_t ys_len,
+                              double *zs, size_t zs_len,
+                              uint64_t *used,
+                              uint64_t *line);
+
+/*
+ * The text of the first marks of the lists, as many as used says, into the front of the buffer
+ * text; *length becomes how many bytes it has, and the bytes past them stay. Numbers and
+ * coordinates have no needless zero in front, coordinates always three decimals and no minus on
+ * zero; descriptions are empty, and each line ends in LF:
+ *
+ *     7,1.500,-0.500,0.000,
+ *
+ * An import of it into lists that are long enough gives the same marks, bit for bit and in the same
+ * order. No marks give the empty text, which is no list to an import (27). Entries past the marks
+ * are not read.
+ * Refusals: 24, 13 (the four lists differ in length, used is above that), 28 (of a mark in use: a
+ * coordinate that an import never gives, such as -0, one that is not finite or past 1,048,576, one
+ * between two millimetres, and a double next to that of a decimal), 14 (the text is longer than
+ * text_len).
+ */
+uint64_t gemlab_survey_export(const uint64_t *ids, size_t ids_len,
+                              const double *xs, size_t xs_len,
+                              const double *ys, size_t ys_len,
+                              const double *zs, size_t zs_len,
+                              uint64_t used,
+                              uint8_t *text, size_t text_len,
+                              uint64_t *length);
 
 /*
  * A cell index.

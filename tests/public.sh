@@ -17,7 +17,9 @@ search search
 listing search_on search_on_place
 listing search_on_line search_on_circle search_on_cylinder
 listing search_on_plane_xy search_on_plane_yz search_on_plane_xz
-files sheet_of_file part_length part_of marks_answer said_of
+files sheet_of_file part_length part_of marks_answer input_of said_of
+survey_import import
+survey_export export
 grid_cells new
 cell_search search
 mesh_view new grid_cells search build
@@ -149,8 +151,8 @@ $(public)
 END
 others=$(contracts crates/capi/src/*.rt | sed 's/ .*//' | grep -v '^gemlab_' || :)
 shown=$(contracts crates/capi/src/*.rt | grep -c '^gemlab_')
-if [ -n "$others" ] || [ "$(public | sed -n 's/^capi //p' | wc -w)" -ne 12 ] || [ "$shown" -ne 12 ]; then
-    echo "public: capi shows other calls than the twelve of its header: $shown, and $others" && failed=1
+if [ -n "$others" ] || [ "$(public | sed -n 's/^capi //p' | wc -w)" -ne 14 ] || [ "$shown" -ne 14 ]; then
+    echo "public: capi shows other calls than the fourteen of its header: $shown, and $others" && failed=1
 fi
 [ "$failed" -eq 0 ] && echo "public: every public call promises something and asks nothing"
 exit $failed

@@ -137,6 +137,36 @@ extern "C" {
         count: *mut u64,
     ) -> u64;
 
+    pub fn gemlab_survey_import(
+        text: *const u8,
+        text_len: usize,
+        ids: *mut u64,
+        ids_len: usize,
+        xs: *mut f64,
+        xs_len: usize,
+        ys: *mut f64,
+        ys_len: usize,
+        zs: *mut f64,
+        zs_len: usize,
+        used: *mut u64,
+        line: *mut u64,
+    ) -> u64;
+
+    pub fn gemlab_survey_export(
+        ids: *const u64,
+        ids_len: usize,
+        xs: *const f64,
+        xs_len: usize,
+        ys: *const f64,
+        ys_len: usize,
+        zs: *const f64,
+        zs_len: usize,
+        used: u64,
+        text: *mut u8,
+        text_len: usize,
+        length: *mut u64,
+    ) -> u64;
+
     pub fn gemlab_grid_cells_new(
         ndim: u64,
         coords: *const f64,

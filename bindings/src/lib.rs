@@ -1,8 +1,9 @@
 //! Survey marks and mesh cells found by position: safe Rust over the proved library's C interface.
 //!
 //! A [`Sheet`] is a grid of containers, a [`Library`] the marks that are filed in it, a [`CellIndex`] the cells of a
-//! [`Mesh`] filed in a grid of their own. Each method is one call, and each call answers or is turned away with a
-//! [`Refusal`], which leaves everything as it was. What each call means is written in `include/gemlab.h`, and proved.
+//! [`Mesh`] filed in a grid of their own; [`survey`] reads and writes the point lists of surveyors. Each method is one call,
+//! and each call answers or is turned away with a [`Refusal`], which leaves everything as it was. What each call means is
+//! written in `include/gemlab.h`, and proved.
 //!
 //! The library is `libcapi.a`, which `rt staticlib capi` writes into `target/staticlib`; the environment variable
 //! `HRBOTAJ_LIB` names another folder.
@@ -80,6 +81,7 @@ mod library;
 mod refusal;
 mod settings;
 mod sheet;
+pub mod survey;
 
 /// The most stack that a call takes, in bytes, but for a listing on which more than 1,024 rows count.
 pub const STACK: usize = 8192;

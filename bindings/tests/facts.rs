@@ -1,5 +1,6 @@
 //! What the header says besides the meaning of each call: names, how long lists have to be, threads and stack.
 
+use hrbotaj::survey::{self, Mark, POINT_BYTES};
 use hrbotaj::{CellIndex, Check, Filter, Library, Mesh, Place, Refusal, Sheet, ROWS, STACK, STACK_LISTING};
 use std::thread;
 
@@ -19,14 +20,15 @@ fn header() -> Vec<(String, u64)> {
 fn names_are_the_headers() {
     let header = header();
     let number = |name: &str| header.iter().find(|(of, _)| of == name).map(|(_, n)| *n);
-    for n in 1..=26 {
+    for n in 1..=28 {
         let name = Refusal(n).name().unwrap();
         assert_eq!(number(name), Some(n), "{name}");
     }
-    assert_eq!((Refusal(0).name(), Refusal(27).name()), (None, None));
-    assert_eq!((Refusal::OUTSIDE, Refusal::NO_ROW), (Refusal(11), Refusal(26)));
+    assert_eq!((Refusal(0).name(), Refusal(29).name()), (None, None));
+    assert_eq!((Refusal::OUTSIDE, Refusal::NO_ROW, Refusal::MALFORMED), (Refusal(11), Refusal(26), Refusal(27)));
     assert_eq!(number("STACK"), Some(STACK as u64));
     assert_eq!(number("STACK_LISTING"), Some(STACK_LISTING as u64));
+    assert_eq!(number("POINT_BYTES"), Some(POINT_BYTES as u64));
 }
 
 /// A sheet whose side is within rounding of twice the tolerance, and the place of a mark whose halo reaches over three
@@ -248,6 +250,47 @@ fn a_cell_takes_up_to_four_or_eight_rows() {
     }
 }
 
+/// Marks whose coordinates are whole millimetres, at both ends and between.
+fn point_list(count: usize) -> Vec<Mark> {
+    let coordinate = |k: usize| (k as i64 * 999_983 % 2_097_152_001 - 1_048_576_000) as f64 / 1000.0;
+    let mark = |k: usize| Mark {
+        id: (k as u64).wrapping_mul(0x9e37_79b9_7f4a_7c15),
+        at: [0, 1, 2].map(|i| coordinate(3 * k + i)),
+    };
+    (0..count).map(mark).collect()
+}
+
+#[test]
+fn a_point_list_is_written_and_read() {
+    // the longest line
+    let widest = Mark { id: u64::MAX, at: [-1048576.0; 3] };
+    let text = survey::export(&[widest]).unwrap();
+    assert_eq!(text, b"18446744073709551615,-1048576.000,-1048576.000,-1048576.000,\n");
+    assert_eq!(text.len(), POINT_BYTES);
+    assert_eq!(survey::import(&text), Ok(vec![widest]));
+    for marks in [point_list(1), point_list(7), point_list(ROWS), vec![widest; ROWS]] {
+        let text = survey::export(&marks).unwrap();
+        assert_eq!(survey::import(&text).as_ref(), Ok(&marks));
+        // descriptions and other ends change nothing, and the last line may have no end
+        let described = String::from_utf8(text).unwrap().replace(",\n", ",post, \r\n").replace("post, ", "a post");
+        assert_eq!(survey::import(described.trim_end().as_bytes()), Ok(marks));
+    }
+    assert_eq!(survey::export(&[]), Ok(vec![]));
+    // minus on zero is dropped
+    let at = survey::import(b"1,-0,-0.0,-0.000,").unwrap()[0].at;
+    assert!(at.iter().all(|x| x.to_bits() == 0));
+}
+
+#[test]
+fn a_coordinate_is_the_float_nearest_to_its_decimal() {
+    for mark in point_list(1000) {
+        let decimal = mark.at.map(|x| format!("{x:.3}"));
+        let text = format!("{},{},\n", mark.id, decimal.join(","));
+        assert_eq!(survey::export(&[mark]), Ok(text.clone().into_bytes()));
+        assert_eq!(survey::import(text.as_bytes()).unwrap()[0].at, decimal.map(|x| x.parse().unwrap()));
+    }
+}
+
 /// A library of one mark in so many containers, every row on the circle of radius 1000 about the origin.
 fn full(rows: usize) -> (Sheet, Library) {
     let sheet = Sheet::new(&[0.0, 0.0], &[8.0, 8.0], Some(256), None, Some(0.0)).unwrap();
@@ -264,6 +307,7 @@ fn full(rows: usize) -> (Sheet, Library) {
 #[test]
 fn calls_run_in_threads_with_little_stack() {
     let (sheet, library) = full(ROWS);
+    let marks = point_list(ROWS);
     let circle = Place::Circle { center: &[0.0, 0.0], radius: 1000.0 };
     // what a thread has for itself
     let besides = 32768;
@@ -280,6 +324,8 @@ fn calls_run_in_threads_with_little_stack() {
                 assert_eq!(own.strike(&sheet, 9), Ok(4));
                 assert_eq!(library.check(&sheet), Ok(Check { bad: None, visited: ROWS as u64 }));
                 assert_eq!(library.search(&sheet, &[4.0, 4.0]), Ok(None));
+                let text = survey::export(&marks).unwrap();
+                assert!(survey::import(&text).as_ref() == Ok(&marks));
             };
             thread::Builder::new().stack_size(STACK + besides).spawn_scoped(scope, one).unwrap();
         }

@@ -1,5 +1,6 @@
 //! A refused call has changed nothing, and plain data that was changed by hand is refused or searched, never trusted.
 
+use hrbotaj::survey::{self, ImportError, Mark};
 use hrbotaj::{CellIndex, Check, Filter, Library, Mesh, Place, Refusal, Sheet};
 
 /// Document 01's sheet S: corners (0, 0) and (8, 4), 8 divisions, tolerance 1/512, border 0.
@@ -124,4 +125,85 @@ fn an_index_is_judged() {
     let broken = Mesh { corners: &[0, 1, 4], ..mesh };
     assert_eq!(index.build(&broken, None, None, None, None), Err(Refusal(19)));
     assert_eq!(index, good);
+}
+
+#[test]
+fn the_first_malformed_line_is_told() {
+    let malformed = [
+        "",
+        "1",
+        "1,2,3,4",
+        "1,2,3,4,5,",
+        ",2,3,4,",
+        "1,,3,4,",
+        "1,2,3,,",
+        "-1,2,3,4,",
+        "+1,2,3,4,",
+        " 1,2,3,4,",
+        "18446744073709551616,2,3,4,",
+        "000000000000000000000,2,3,4,",
+        "1,+2,3,4,",
+        "1,--2,3,4,",
+        "1,2.,3,4,",
+        "1,.2,3,4,",
+        "1,2e3,3,4,",
+        "1,2.0000,3,4,",
+        "1,00000002,3,4,",
+        "1,1048576.001,3,4,",
+        "1,2,-1048577,4,",
+        "1,2,3, 4,",
+        "1,2,3,4,\t",
+        "1,2,3,4,\x7f",
+        "1,2,3,4,\u{e9}",
+        "1,2,3,4,\r\r",
+        "1,2,3,4,123456789012345678901234567890123",
+    ];
+    for line in malformed {
+        for before in 0..4 {
+            let text = ["1,2,3,4,\r\n".repeat(before), line.to_string(), "\n\n1,2,3,4,\n".to_string()].concat();
+            let error = survey::import(text.as_bytes()).unwrap_err();
+            assert_eq!(error, ImportError { refusal: Refusal(27), line: Some(before as u64 + 1) }, "{text:?}");
+            assert_eq!(Refusal::from(error), Refusal::MALFORMED);
+        }
+    }
+    for (text, line) in
+        [("", 1), ("\n", 1), ("\r", 1), ("1,2,3,4,\r", 1), ("1,2,3,4,\n\n", 2), ("1,2,3,4,\r5,6,7,8,\n", 1)]
+    {
+        assert_eq!(survey::import(text.as_bytes()).unwrap_err().line, Some(line), "{text:?}");
+    }
+    let message = "refused 27 in line 2: a line of the text is malformed";
+    assert_eq!(survey::import(b"1,2,3,4,\n1,2,3,4\n").unwrap_err().to_string(), message);
+}
+
+#[test]
+fn point_lists_have_at_most_65_536_marks() {
+    let line = "1,2,3,4,\n";
+    assert_eq!(survey::import(line.repeat(65536).as_bytes()).map(|marks| marks.len()), Ok(65536));
+    let more = line.repeat(65537);
+    let full = ImportError { refusal: Refusal::FULL, line: None };
+    assert_eq!(survey::import(more.as_bytes()), Err(full));
+    assert_eq!(full.to_string(), Refusal::FULL.to_string());
+    // every line is judged before that
+    assert_eq!(survey::import((more + "\n").as_bytes()).unwrap_err().line, Some(65538));
+    // and the length of the lists before any coordinate
+    let mut marks = vec![Mark { id: 1, at: [f64::NAN; 3] }; 65536];
+    assert_eq!(survey::export(&marks), Err(Refusal(28)));
+    marks.push(marks[0]);
+    assert_eq!(survey::export(&marks), Err(Refusal(24)));
+}
+
+#[test]
+fn what_is_no_decimal_is_not_exported() {
+    let good = [Mark { id: 7, at: [1.5, -0.5, 0.0] }, Mark { id: 8, at: [1048576.0, -1048576.0, 0.001] }];
+    assert_eq!(survey::export(&good).unwrap(), b"7,1.500,-0.500,0.000,\n8,1048576.000,-1048576.000,0.001,\n");
+    let third = 1.0 / 3.0;
+    let bad = [-0.0, f64::NAN, f64::INFINITY, f64::NEG_INFINITY, third, 0.0005, 1e300, 0.1 + 0.2, 1048576.001, 5e-324];
+    let beside = [1.5f64, -0.5, 1048576.0, -1048576.0, 0.001].map(|x| [x.next_up(), x.next_down()]);
+    for x in beside.concat().into_iter().chain(bad) {
+        for (mark, axis) in [(0, 0), (0, 1), (0, 2), (1, 0), (1, 1), (1, 2)] {
+            let mut marks = good;
+            marks[mark].at[axis] = x;
+            assert_eq!(survey::export(&marks), Err(Refusal(28)), "{x:e}");
+        }
+    }
 }

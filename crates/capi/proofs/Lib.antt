@@ -4,3 +4,4 @@ mod Indexes
 mod Libraries
 mod Listings
 mod SheetLaws
+mod Surveys

@@ -6,3 +6,5 @@ pub mod Libraries
 pub mod Lists
 pub mod Cells
 pub mod Indexes
+-- Point lists of surveyors.
+pub mod Surveys

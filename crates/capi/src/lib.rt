@@ -6,6 +6,7 @@ mod index;
 mod library;
 mod lists;
 mod sheet;
+mod survey;
 
 // for Rattle programs
 pub use cells::gemlab_grid_cells_new;
@@ -20,3 +21,5 @@ pub use library::gemlab_grid_search_search;
 pub use library::gemlab_grid_search_strike;
 pub use lists::gemlab_grid_search_list;
 pub use sheet::gemlab_grid_search_new;
+pub use survey::gemlab_survey_export;
+pub use survey::gemlab_survey_import;
