@@ -18,10 +18,12 @@ mod listing;
 mod meshes;
 mod near;
 mod nearest;
+mod point_list;
 mod random;
 mod rows;
 mod sheet;
 mod strike;
+mod survey;
 mod tally;
 mod timing;
 
@@ -37,6 +39,7 @@ const PARTS: &[(&str, fn(&mut Tally))] = &[
     ("strike", strike::compare),
     ("nearest", nearest::compare),
     ("check", check::compare),
+    ("survey", survey::compare),
     ("cells", cells::compare),
     ("field", field::compare),
 ];
@@ -50,6 +53,7 @@ const BENCHES: &[(&str, fn())] = &[
     ("bench-strike", strike::measure),
     ("bench-nearest", nearest::measure),
     ("bench-check", check::measure),
+    ("bench-survey", survey::measure),
     ("bench-cells", cells::measure),
 ];
 

@@ -61,18 +61,32 @@ pub fn burst(f: impl Fn(usize) -> u64) -> impl Fn(usize, usize) -> u64 {
 /// Nanoseconds for a call of each of several functions: the best of many short bursts, which take turns, so that the work of others on
 /// the same machine falls on all alike and leaves some bursts of each alone.
 pub fn in_turn<const N: usize>(bursts: [&dyn Fn(usize, usize) -> u64; N]) -> [f64; N] {
-    const ROUNDS: usize = 10_000;
     const NANOSECONDS: f64 = 20_000.0;
-    let time = |i: usize, k: usize, calls: usize| {
-        let start = Instant::now();
-        black_box(bursts[i](k, calls));
-        start.elapsed().as_nanos() as f64 / calls as f64
-    };
-    let calls: [usize; N] = std::array::from_fn(|i| (NANOSECONDS / time(i, 0, 100)).clamp(8.0, 1000.0) as usize);
+    let calls = bursts.map(|burst| (NANOSECONDS / time(burst, 0, 100)).clamp(8.0, 1000.0) as usize);
+    best_in_turn(10_000, calls, bursts)
+}
+
+/// The same for calls of milliseconds: one a turn.
+pub fn long_in_turn<const N: usize>(bursts: [&dyn Fn(usize, usize) -> u64; N]) -> [f64; N] {
+    best_in_turn(100, [1; N], bursts)
+}
+
+fn time(burst: &dyn Fn(usize, usize) -> u64, k: usize, calls: usize) -> f64 {
+    let start = Instant::now();
+    black_box(burst(k, calls));
+    start.elapsed().as_nanos() as f64 / calls as f64
+}
+
+/// The best of so many rounds, with so many calls of each function in a round.
+fn best_in_turn<const N: usize>(
+    rounds: usize,
+    calls: [usize; N],
+    bursts: [&dyn Fn(usize, usize) -> u64; N],
+) -> [f64; N] {
     let mut best = [f64::INFINITY; N];
-    for round in 0..ROUNDS {
+    for round in 0..rounds {
         for i in 0..N {
-            best[i] = best[i].min(time(i, round * calls[i], calls[i]));
+            best[i] = best[i].min(time(bursts[i], round * calls[i], calls[i]));
         }
     }
     best

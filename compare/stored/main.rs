@@ -1,5 +1,6 @@
 //! What gemlab answers, stored in files of this repository: the texts that `positions` and the C program `survey.c` have
-//! to write, the list of answers that the program `replay` goes through, and files with what `catalogue` prints of them.
+//! to write, the list of answers that the program `replay` goes through, and input of `catalogue` and `survey` with what these
+//! print of it.
 //! Nothing of the library is called here.
 //!
 //! `stored check` says whether each file is what gemlab gives today; `stored write` writes them.
@@ -11,6 +12,10 @@ mod choice;
 mod libraries;
 mod meshes;
 mod numbers;
+#[allow(dead_code)]
+#[path = "../src/point_list.rs"]
+mod point_list;
+mod point_lists;
 mod positions;
 #[allow(dead_code)]
 #[path = "../src/random.rs"]
@@ -32,8 +37,10 @@ const STORED: &[(&str, Made)] = &[
     ("crates/replay/stdout", replay::text),
     ("crates/replay/data/libraries.bin", replay::libraries_file),
     ("crates/replay/data/meshes.bin", replay::meshes_file),
+    ("crates/survey/stdout", point_lists::sample),
     ("examples/survey.expected", survey::text),
     ("tests/catalogue.cases", catalogue::text),
+    ("tests/survey.cases", point_lists::text),
 ];
 
 fn main() -> ExitCode {
