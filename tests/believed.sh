@@ -458,13 +458,13 @@ LC_ALL=C sort "$work/expected" | diff - "$work/found" || {
     echo "believed: an example is read otherwise" && exit 1
 }
 
-# The public calls, and the function that makes the program's text.
+# The public calls, and the functions that make the programs' texts.
 tests/public.sh --list >"$work/calls"
-echo catalogue put_text >>"$work/calls"
+printf '%s put_text\n' catalogue survey >>"$work/calls"
 show=1
 [ "${1:-}" != --count ] || show=0
 failed=0
-walk . "$show" "$work/calls" 'rows/specs/Claims independence/specs/Claims cell_claims/specs/Claims' >"$work/list" || failed=1
+walk . "$show" "$work/calls" 'rows/specs/Claims independence/specs/Claims cell_claims/specs/Claims millimetres/specs/Claims survey_claims/specs/Claims' >"$work/list" || failed=1
 count=$(tail -n 1 "$work/list")
 [ "$show" -eq 1 ] && for page in README.md docs/PROOFS.md; do
     said=$(tr -s '\n ' '  ' <$page | grep -oE '[0-9,]+ definitions, [0-9,]+ lines') || :
