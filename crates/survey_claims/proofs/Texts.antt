@@ -15,14 +15,14 @@ use Rattle.lines.proofs.Lines.{lines-none, lines-joined}
 use Rattle.millimetres.specs.Millimetres.{nearestTo}
 use Rattle.decimals.specs.Decimals.{coordinateText}
 use Rattle.survey_import.specs.Marks.{goodLine, markOf, malformed}
-use Rattle.survey_export.specs.Export.{goodMark, lineOf, textOf}
+use Rattle.survey_export.specs.Export.{goodMark, lineText, lineOf, textOf}
 use Rattle.survey_claims.specs.Claims.{lent}
 use Rattle.survey_claims.proofs.Bytes.{no-end}
 use Rattle.survey_claims.proofs.Marks.{bare, joined-text, bare-good, bare-mark, bare-without, line-mark}
 
 -- the line of the first mark in front of the text of the others
 text-first : (m : Record) (ms : List Record) → textOf (m ∷ ms) ≡ bare m ++ (10 ∷ textOf ms)
-unfolding textOf lineOf
+unfolding textOf lineOf lineText
 text-first m ms = joined-text (decimal (m .id)) (coordinateText (nearestTo (m .x))) (coordinateText (nearestTo (m .y))) (coordinateText (nearestTo (m .z))) (textOf ms)
 
 text-none : textOf [] ≡ []

@@ -2,7 +2,7 @@
 -- Assumes nothing.
 use Prim.Native.Nat.{ℕ, _+_, _^_, _≤_, _<_}
 use native.Mathlib.Omega.{arith}
-use mathlib.Core.Path.{_≡_, refl, sym, ap, _∙_}
+use mathlib.Core.Path.{_≡_, refl, sym, ap, _∙_, subst}
 use mathlib.Core.Bool.{true, false, cond, _&&_}
 use mathlib.Core.Option.{none, some, Option·some-injective, Option·some-ne-none}
 use mathlib.Core.List.{List, [], _∷_, _++_, append-nil, append-assoc}
@@ -14,15 +14,15 @@ use borrow.Author.Tests.{leb-true}
 use Rattle.basics.proofs.Bools.{and-left, and-right, by-test}
 use Rattle.records.specs.declared.Record.{Record}
 use Rattle.floats.specs.Tests.{sameBits}
-use Rattle.text.specs.Text.{decimal}
-use Rattle.text.proofs.Laws.{decimal-some, decimal-20}
+use Rattle.text.specs.Text.{decimal, Put}
+use Rattle.text.proofs.Laws.{put-both, decimal-some, decimal-20}
 use Rattle.millimetres.specs.Millimetres.{limit, valueOf, nearestTo, isDecimal, decimalOf, wholeOf}
 use Rattle.millimetres.specs.declared.Whole.{Whole}
 use Rattle.millimetres.specs.declared.Whole.the-variants as whole
 use Rattle.decimals.specs.Decimals.{coordinateText}
 use Rattle.decimals.proofs.Laws.{coordinate-length}
-use Rattle.survey_export.specs.Export.{goodMark, lineOf, textOf}
-use Rattle.survey_export.specs.Posts.{lineText, Told}
+use Rattle.survey_export.specs.Export.{goodMark, lineText, lineOf, textOf}
+use Rattle.survey_export.specs.Posts.{withComma, Told}
 
 -- ---- the millimetres of a coordinate and of a mark
 
@@ -63,7 +63,7 @@ good m e =
 -- ---- a line
 
 pub line-is : (m : Record) (x y z : ℤ) → Told m x y z → lineText (m .id) x y z ≡ lineOf m
-unfolding lineText lineOf
+unfolding lineOf
 line-is m x y z t = λ i. lineText (m .id) (t .x-is i) (t .y-is i) (t .z-is i)
 
 pub line-parts : (id : ℕ) (x y z : ℤ) → lineText id x y z ≡ decimal id ++ (44 ∷ coordinateText x ++ (44 ∷ coordinateText y ++ (44 ∷ coordinateText z ++ (44 ∷ 10 ∷ []))))
@@ -72,6 +72,38 @@ line-parts id x y z = refl
 
 pub line-length : (id : ℕ) (x y z : ℤ) → length (lineText id x y z) ≡ length (decimal id) + length (coordinateText x) + length (coordinateText y) + length (coordinateText z) + 5
 line-length id x y z = rw line-parts (simp length-append (omega arith))
+
+-- in parts, each with the comma after it
+pub comma-length : (field : List ℕ) → length (withComma field) ≡ length field + 1
+comma-length field = length-append field (44 ∷ [])
+
+pub line-fields : (id : ℕ) (x y z : ℤ)
+    → length (lineText id x y z)
+    ≡ length (withComma (decimal id)) + length (withComma (coordinateText x)) + length (withComma (coordinateText y)) + length (withComma (coordinateText z)) + 1
+line-fields id x y z =
+    omega (
+      arith,
+      line-length id x y z,
+      comma-length (decimal id),
+      comma-length (coordinateText x),
+      comma-length (coordinateText y),
+      comma-length (coordinateText z),
+    )
+
+fields-are : (id : ℕ) (x y z : ℤ)
+    → withComma (decimal id) ++ (withComma (coordinateText x) ++ (withComma (coordinateText y) ++ (withComma (coordinateText z) ++ (10 ∷ [])))) ≡ lineText id x y z
+fields-are id x y z = rw line-parts (simp append-assoc)
+
+-- put one after the other
+pub line-put : (id : ℕ) (x y z : ℤ) {l₀ l₁ l₂ l₃ l₄ l₅ : List ℕ} {n₀ n₁ n₂ n₃ n₄ n₅ : ℕ}
+    → Put (withComma (decimal id)) l₀ n₀ l₁ n₁
+    → Put (withComma (coordinateText x)) l₁ n₁ l₂ n₂
+    → Put (withComma (coordinateText y)) l₂ n₂ l₃ n₃
+    → Put (withComma (coordinateText z)) l₃ n₃ l₄ n₄
+    → Put (10 ∷ []) l₄ n₄ l₅ n₅
+    → Put (lineText id x y z) l₀ n₀ l₅ n₅
+line-put id x y z {l₀} {l₅ = l₅} {n₀} {n₅ = n₅} number easting northing height end =
+    subst (λ (t : List ℕ). Put t l₀ n₀ l₅ n₅) (fields-are id x y z) (put-both number (put-both easting (put-both northing (put-both height end))))
 
 -- the most bytes that a line has: twenty digits, three coordinates, four commas and the line's end
 abbrev pub longest : ℕ

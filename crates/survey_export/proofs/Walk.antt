@@ -22,8 +22,8 @@ use Rattle.mark_lists.specs.MarkLists.{MarkList, markAt, marksIn}
 use Rattle.mark_lists.proofs.Laws.{length-marks, mark-in}
 use Rattle.survey_export.specs.declared.Decimals.{Decimals}
 use Rattle.survey_export.specs.declared.Decimals.the-variants as decimals
-use Rattle.survey_export.specs.Export.{goodMark, textOf}
-use Rattle.survey_export.specs.Posts.{lineText, Told, Tells, Stands}
+use Rattle.survey_export.specs.Export.{lineText, goodMark, textOf}
+use Rattle.survey_export.specs.Posts.{Told, Tells, Stands}
 use Rattle.survey_export.proofs.Laws.{within, good, line-is, line-most, longest, text-more}
 
 -- ---- what was told of a mark

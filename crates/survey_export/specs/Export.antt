@@ -5,6 +5,7 @@ use mathlib.Core.Path.{_≡_}
 use mathlib.Core.Bool.{Bool, not, _&&_}
 use mathlib.Core.List.{List, [], _∷_, _++_}
 use lib.Dec.{ltb}
+use lib.IntN.{ℤ}
 use lib.ListN.{length}
 use Rattle.basics.specs.Lists.{all}
 use Rattle.basics.specs.Refusals.{Test, refuse, fault, Answer, refused, success}
@@ -22,14 +23,19 @@ unfoldable pub goodMark : Record → Bool
 unfolding isDecimal
 goodMark m = isDecimal (m .x) && (isDecimal (m .y) && isDecimal (m .z))
 
--- the line of such a mark: the description after the fourth comma is empty
+-- the line of a number and three coordinates in millimetres: the description after the fourth comma is empty
+unfoldable pub lineText : ℕ → ℤ → ℤ → ℤ → List ℕ
+unfolding decimal coordinateText
+lineText id x y z =
+    decimal id ++ (ascii ","
+    ++ (coordinateText x ++ (ascii ","
+    ++ (coordinateText y ++ (ascii ","
+    ++ (coordinateText z ++ ascii ",\n"))))))
+
+-- the line of such a mark
 unfoldable pub lineOf : Record → List ℕ
-unfolding decimal coordinateText nearestTo
-lineOf m =
-    decimal (m .id) ++ (ascii ","
-    ++ (coordinateText (nearestTo (m .x)) ++ (ascii ","
-    ++ (coordinateText (nearestTo (m .y)) ++ (ascii ","
-    ++ (coordinateText (nearestTo (m .z)) ++ ascii ",\n"))))))
+unfolding lineText nearestTo
+lineOf m = lineText (m .id) (nearestTo (m .x)) (nearestTo (m .y)) (nearestTo (m .z))
 
 -- the lines of marks, one after the other
 unfoldable pub textOf : List Record → List ℕ

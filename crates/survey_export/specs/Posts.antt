@@ -15,14 +15,9 @@ use Rattle.survey_export.specs.declared.Exported.the-variants as exporte
 use Rattle.survey_export.specs.declared.Decimals.{Decimals}
 use Rattle.survey_export.specs.declared.Decimals.the-variants as decimals
 
--- the line of a number and three coordinates in millimetres
-unfoldable pub lineText : ℕ → ℤ → ℤ → ℤ → List ℕ
-unfolding decimal coordinateText
-lineText id x y z =
-    decimal id ++ (ascii ","
-    ++ (coordinateText x ++ (ascii ","
-    ++ (coordinateText y ++ (ascii ","
-    ++ (coordinateText z ++ ascii ",\n"))))))
+-- a field with the comma after it
+abbrev pub withComma : List ℕ → List ℕ
+withComma field = field ++ ascii ","
 
 -- the mark is good, and these are its coordinates in millimetres
 pub record Told (m : Record) (x y z : ℤ) : Type 0 where

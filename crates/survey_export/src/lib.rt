@@ -3,12 +3,13 @@ ghost use Prim.Native.Nat.{_+_, _^_, _≤_, _<_};
 ghost use mathlib.Core.Path.{_≡_};
 ghost use lib.IntN.{natAbs};
 ghost use lib.ListN.{length};
-ghost use Rattle.text.specs.Text.{Put};
+ghost use Rattle.text.specs.Text.{decimal, Put};
 ghost use Rattle.millimetres.specs.Millimetres.{limit};
+ghost use Rattle.decimals.specs.Decimals.{coordinateText};
 ghost use Rattle.mark_lists.specs.MarkLists.{markList, marksIn};
 ghost use Rattle.mark_lists.specs.Posts.{Room, lists};
-ghost use Rattle.survey_export.specs.Export.{exporting, Exports};
-ghost use Rattle.survey_export.specs.Posts.{lineText, Tells, Puts};
+ghost use Rattle.survey_export.specs.Export.{lineText, exporting, Exports};
+ghost use Rattle.survey_export.specs.Posts.{withComma, Tells, Puts};
 use millimetres::Whole;
 use records::Record;
 
@@ -42,20 +43,35 @@ fn decimals_of(mark: Record) -> Decimals
     Decimals::Whole(x, y, z)
 }
 
+// A mark's number, with the comma after it.
+fn put_number(text: &mut [u8], at: usize, id: u64) -> usize
+    requires { ⌜ at + length (withComma (decimal id)) < 2 ^ 64 ⌝ }
+    ensures { λ r. ⌜ Put (withComma (decimal id)) (now (text .entry)) at (now (text .exit)) r ⌝ }
+{
+    let past_number = text::put_decimal(text, at, id);
+    text::put_byte(text, past_number, b',')
+}
+
+// A coordinate, with the comma after it.
+fn put_field(text: &mut [u8], at: usize, millimetres: i64) -> usize
+    requires { ⌜ natAbs millimetres ≤ limit ⌝ }
+    requires { ⌜ at + length (withComma (coordinateText millimetres)) < 2 ^ 64 ⌝ }
+    ensures { λ r. ⌜ Put (withComma (coordinateText millimetres)) (now (text .entry)) at (now (text .exit)) r ⌝ }
+{
+    let past_coordinate = decimals::put_coordinate(text, at, millimetres);
+    text::put_byte(text, past_coordinate, b',')
+}
+
 // The line of a mark: the description after the fourth comma is empty.
 fn put_mark(text: &mut [u8], at: usize, id: u64, x: i64, y: i64, z: i64) -> usize
     requires { ⌜ natAbs x ≤ limit ⌝ ∗ ⌜ natAbs y ≤ limit ⌝ ∗ ⌜ natAbs z ≤ limit ⌝ }
     requires { ⌜ at + length (lineText id x y z) < 2 ^ 64 ⌝ }
     ensures { λ r. ⌜ Put (lineText id x y z) (now (text .entry)) at (now (text .exit)) r ⌝ }
 {
-    let past_id = text::put_decimal(text, at, id);
-    let x_at = text::put_byte(text, past_id, b',');
-    let past_x = decimals::put_coordinate(text, x_at, x);
-    let y_at = text::put_byte(text, past_x, b',');
-    let past_y = decimals::put_coordinate(text, y_at, y);
-    let z_at = text::put_byte(text, past_y, b',');
-    let past_z = decimals::put_coordinate(text, z_at, z);
-    let end_at = text::put_byte(text, past_z, b',');
+    let x_at = put_number(text, at, id);
+    let y_at = put_field(text, x_at, x);
+    let z_at = put_field(text, y_at, y);
+    let end_at = put_field(text, z_at, z);
     text::put_byte(text, end_at, b'\n')
 }
 
