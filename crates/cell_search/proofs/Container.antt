@@ -22,16 +22,13 @@ use Rattle.mesh.specs.Mesh.{Mesh}
 use Rattle.mesh.specs.Cell.{contains}
 use Rattle.table.specs.Rows.{Slot, slotted, before, chain, sorted, lower, slotAt, slotsOf}
 use Rattle.table.proofs.Order.{Lex, before-lex, lex-before, chain-sorted, lower-le}
+use Rattle.table.proofs.First.{key-le}
 use Rattle.cell_search.specs.declared.FoundCell.{FoundCell}
 use Rattle.cell_search.specs.Steps.{Own}
 use Rattle.cell_search.specs.declared.FoundCell.the-variants.{Cell, Nothing, Refused}
 use Rattle.cell_search.specs.Search.{firstCell, answerCell, tryCells, CellSearch, foundCell, leaves}
 
 -- ---- the order of slots, by their keys
-
-key-le : (p q : Slot) → before p q ≡ true → p .key ≤ q .key
-unfolding Lex
-key-le p q b = ⊎-elim (λ h. omega arith) (λ h. omega arith) (before-lex p q b)
 
 -- p stands before the first slot of a key exactly if its own key is lower
 module _ (p : Slot) (key : ℕ) where

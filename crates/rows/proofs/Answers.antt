@@ -108,6 +108,10 @@ module _ (s : GridSearch) (l : Library) (x : List Float) where
       first none f = rw f
       first (some n) f = e ∙ rw (fault-stop (libraryTests s l) (positionTests s x []) n f, f)
 
+  -- the same where the library is known to pass
+  pub called-past : fault (libraryTests s l) ≡ none → 0 ≡ code (fault (positionTests s x [])) → Called s l x
+  called-past f e = record { library = f; position = position-numbered s x e }
+
   -- a call that these turn away is turned away by them, whatever comes after
   pub turned-first : {n : ℕ} (ps : List (List Float)) (ts : List Test) → n ≡ code (fault firstTests) → (n ≡ 0 → ⊥) → fault (libraryTests s l ++ (positionTests s x ps ++ ts)) ≡ some n
   turned-first {n} ps ts e h = go (fault (libraryTests s l)) refl
@@ -158,6 +162,15 @@ module _ (s : GridSearch) (l : Library) (i : ℕ) (x : List Float) where
   pub refused-first : {n : ℕ} → n ≡ code (fault (libraryTests s l ++ positionTests s x [])) → (n ≡ 0 → ⊥) → fault (insertTests s l i x) ≡ some n
   unfolding insertTests
   refused-first e h = turned-first s l x (points s x) (roomTests l (rowsWith s i x (table l))) e h
+
+  -- 2, 3, 11 of a library that passes 24 and 13
+  pub refused-past : fault (libraryTests s l) ≡ none → {n : ℕ} → n ≡ code (fault (positionTests s x [])) → (n ≡ 0 → ⊥) → fault (insertTests s l i x) ≡ some n
+  unfolding code
+  refused-past f e h = refused-first (of-position s l x (sym (ap code f)) e) h
+
+  -- 24 and 13
+  pub refused-damage : {n : ℕ} → n ≡ code (fault (libraryTests s l)) → (n ≡ 0 → ⊥) → fault (insertTests s l i x) ≡ some n
+  refused-damage e h = refused-first (of-library s l x e h) h
 
   module _ (k : Called s l x) where
     past-library : fault (insertTests s l i x) ≡ fault (positionTests s x (points s x) ++ roomTests l (rowsWith s i x (table l)))

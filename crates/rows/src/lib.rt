@@ -3,6 +3,7 @@
 ghost use mathlib.Core.Path.{_≡_};
 ghost use mathlib.Core.Bool.{true, false, cond, _&&_};
 ghost use mathlib.Core.List.{[], _++_};
+ghost use mathlib.Core.Option.{none};
 ghost use Prim.Native.Nat.{ℕ, _%_, _^_, _≤_, _<_};
 ghost use lib.Dec.{eqb};
 ghost use lib.ListN.{length};
@@ -215,7 +216,7 @@ pub fn library_fault(
 }
 
 // What turns a position away before its container is looked for: 2, 3, 11, or 0.
-fn position_fault(sheet: GridSearch, x: &[f64]) -> u64
+pub fn position_fault(sheet: GridSearch, x: &[f64]) -> u64
     requires { ⌜ dimension (sheet .ndim) ≡ true ⌝ }
     ensures { λ r. ⌜ r ≡ code (fault (positionTests sheet (now (x .entry)) [])) ⌝ }
 {
@@ -323,12 +324,44 @@ fn find_targets(sheet: GridSearch, into: &mut [u64], x: Position) -> usize
 }
 
 // What is to be done with a mark: it goes into the first so many of the containers found, or is refused.
-enum Judged {
+pub enum Judged {
     Into(usize),
     Refused(u64),
 }
 
-// Judges an insertion and finds the containers that the mark goes into. 12 is judged before anything is written.
+// Judges an insertion into a library that passes 24 and 13, and finds the containers that the mark goes into: 2, 3, 11, 17 and
+// 12, which is judged before anything is written.
+pub fn judge_mark(
+    sheet: GridSearch,
+    keys: &[u64],
+    ids: &[u64],
+    xs: &[f64],
+    ys: &[f64],
+    zs: &[f64],
+    used: usize,
+    id: u64,
+    x: &[f64],
+    into: &mut [u64],
+) -> Judged
+    requires { ⌜ fault (libraryTests sheet (library (now keys) (now ids) (now xs) (now ys) (now zs) used)) ≡ none ⌝ ∗ ⌜ 9 ≤ length (now into) ⌝ }
+    ensures { λ r. ⌜ Judges sheet (library (now (keys .entry)) (now (ids .entry)) (now (xs .entry)) (now (ys .entry)) (now (zs .entry)) used)
+        id (now (x .entry)) r (now (into .exit)) ⌝ }
+{
+    let fault = position_fault(sheet, x);
+    if fault != 0 {
+        return Judged::Refused(fault);
+    }
+    let n = find_targets(sheet, into, Position::new(x));
+    if n == 0 {
+        return Judged::Refused(17);
+    }
+    if table::rows_after(keys, ids, used, &into[..n], id) > keys.len() {
+        return Judged::Refused(12);
+    }
+    Judged::Into(n)
+}
+
+// The same with 24 and 13 before it, of any library.
 fn judge(
     sheet: GridSearch,
     keys: &[u64],
@@ -345,18 +378,11 @@ fn judge(
     ensures { λ r. ⌜ Judges sheet (library (now (keys .entry)) (now (ids .entry)) (now (xs .entry)) (now (ys .entry)) (now (zs .entry)) used)
         id (now (x .entry)) r (now (into .exit)) ⌝ }
 {
-    let fault = call_fault(sheet, keys, ids, xs, ys, zs, used, x);
-    if fault != 0 {
-        return Judged::Refused(fault);
+    let damage = library_fault(sheet, keys, ids, xs, ys, zs, used);
+    if damage != 0 {
+        return Judged::Refused(damage);
     }
-    let n = find_targets(sheet, into, Position::new(x));
-    if n == 0 {
-        return Judged::Refused(17);
-    }
-    if table::rows_after(keys, ids, used, &into[..n], id) > keys.len() {
-        return Judged::Refused(12);
-    }
-    Judged::Into(n)
+    judge_mark(sheet, keys, ids, xs, ys, zs, used, id, x, into)
 }
 
 // Puts a mark into the library: into its container, and into those of its halo corners that fall within the sheet. A row

@@ -1,8 +1,10 @@
 // Module 7: the mark at a position. From gemlab's `GridSearch::search`.
 ghost use mathlib.Core.Path.{_≡_};
 ghost use mathlib.Core.Bool.{true};
+ghost use lib.ListN.{take};
 ghost use Rattle.basics.specs.Refusals.{success};
 ghost use Rattle.geometry.specs.Position.{coords, dimension};
+ghost use Rattle.table.specs.Rows.{lead};
 ghost use Rattle.table.specs.Library.{library, table};
 ghost use Rattle.table.specs.Posts.{InOrder};
 ghost use Rattle.rows.specs.Insert.{containerOf};
@@ -74,7 +76,44 @@ fn found_of(best: Nearest) -> Found
 }
 
 // The choice among the rows near x, which is in the container of a key: the nearest, and the lowest id among equally near
-// ones. The container's rows stand together, and their ids ascend.
+// ones. The container's rows stand together from `from` on, and their ids ascend.
+pub fn find_from(
+    sheet: GridSearch,
+    keys: &[u64],
+    ids: &[u64],
+    xs: &[f64],
+    ys: &[f64],
+    zs: &[f64],
+    used: usize,
+    key: u64,
+    from: usize,
+    x: Position,
+) -> Found
+    requires { ⌜ dimension (sheet .ndim) ≡ true ⌝ ∗ ⌜ containerOf sheet (coords (sheet .ndim) x) ≡ key ⌝ ∗ ⌜ InOrder (library (now keys) (now ids) (now xs) (now ys) (now zs) used) ⌝ }
+    requires { ⌜ from ≡ lead key (take used (now keys)) ⌝ }
+    ensures { λ r. ⌜ found r ≡ success (chosen sheet (coords (sheet .ndim) x) (nearRows sheet (coords (sheet .ndim) x) (table (library (now (keys .entry)) (now (ids .entry)) (now (xs .entry)) (now (ys .entry)) (now (zs .entry)) used)))) ⌝ }
+{
+    let tol_dist = sheet.tol_dist;
+    let within = windows::square_within(Distance::Root, tol_dist);
+    let mut best = Nearest {
+        any: false,
+        id: 0,
+        square: windows::square_above(Distance::Root, tol_dist),
+    };
+    let mut i = from;
+    while i < used {
+        if keys[i] != key {
+            return found_of(best);
+        }
+        let row = table::read_row(keys, ids, xs, ys, zs, i);
+        let square = geometry::point_square(sheet.ndim, row.at, x);
+        best = nearer(tol_dist, within, best, row.id.0, square);
+        i += 1;
+    }
+    found_of(best)
+}
+
+// The same, where the first of the container's rows is to be looked for.
 fn find_near(
     sheet: GridSearch,
     keys: &[u64],
@@ -89,24 +128,8 @@ fn find_near(
     requires { ⌜ dimension (sheet .ndim) ≡ true ⌝ ∗ ⌜ containerOf sheet (coords (sheet .ndim) x) ≡ key ⌝ ∗ ⌜ InOrder (library (now keys) (now ids) (now xs) (now ys) (now zs) used) ⌝ }
     ensures { λ r. ⌜ found r ≡ success (chosen sheet (coords (sheet .ndim) x) (nearRows sheet (coords (sheet .ndim) x) (table (library (now (keys .entry)) (now (ids .entry)) (now (xs .entry)) (now (ys .entry)) (now (zs .entry)) used)))) ⌝ }
 {
-    let tol_dist = sheet.tol_dist;
-    let within = windows::square_within(Distance::Root, tol_dist);
-    let mut best = Nearest {
-        any: false,
-        id: 0,
-        square: windows::square_above(Distance::Root, tol_dist),
-    };
-    let mut i = table::first_of(keys, used, key);
-    while i < used {
-        if keys[i] != key {
-            return found_of(best);
-        }
-        let row = table::read_row(keys, ids, xs, ys, zs, i);
-        let square = geometry::point_square(sheet.ndim, row.at, x);
-        best = nearer(tol_dist, within, best, row.id.0, square);
-        i += 1;
-    }
-    found_of(best)
+    let from = table::first_of(keys, used, key);
+    find_from(sheet, keys, ids, xs, ys, zs, used, key, from, x)
 }
 
 // The nearest of the marks near a position, and the one of the lowest id among equally near ones; or nothing, or the refusal.

@@ -17,9 +17,10 @@ use Rattle.floats.specs.Rounded.{zeroF}
 use Rattle.table.specs.declared.Row.{Row}
 use Rattle.table.specs.Rows.{keyIn, idIn, xIn, yIn, zIn, rowOf, without}
 use Rattle.basics.specs.Lists.{leading}
-use Rattle.strike.specs.Posts.{cleared, Leaves, two, Strikes, Lowered, LoweredTwo, Closed, clearedRows}
+use Rattle.strike.specs.Posts.{Leaves, two, Strikes, Lowered, LoweredTwo, Closed, clearedRows}
 use Rattle.table.specs.Library.{Library, library, rowAt, rowsOf, table, write, blank, lengths}
-use Rattle.table.specs.Posts.{Long, Room, eachOf, written}
+use Rattle.table.specs.Posts.{cleared, Long, Room, eachOf, written}
+use Rattle.table.proofs.Cleared.{cleared-over}
 use Rattle.table.proofs.Ids.{length-without}
 use Rattle.table.proofs.Libraries.{length-rows, length-table, table-keys, table-ids, table-xs, table-ys, table-zs, counted}
 
@@ -48,11 +49,11 @@ leading-most v (x ∷ s) = by-test (eqb x v) (λ e. rw e (omega arith)) (λ e. r
 -- ---- lists of rows that grow by one
 
 module _ {A : Type 0} where
-  tab-next : (n : ℕ) (f : ℕ → A) → tab (suc n) f ≡ tab n f ++ f n ∷ []
+  pub tab-next : (n : ℕ) (f : ℕ → A) → tab (suc n) f ≡ tab n f ++ f n ∷ []
   tab-next zero f = refl
   tab-next (suc n) f = ap (λ (r : List A). f 0 ∷ r) (tab-next n (λ i. f (suc i)))
 
-  tab-same : (n : ℕ) (f g : ℕ → A) → ((i : ℕ) → i < n → f i ≡ g i) → tab n f ≡ tab n g
+  pub tab-same : (n : ℕ) (f g : ℕ → A) → ((i : ℕ) → i < n → f i ≡ g i) → tab n f ≡ tab n g
   tab-same zero f g h = refl
   tab-same (suc n) f g h = ap₂ (λ (x : A) (r : List A). x ∷ r) (h 0 (omega arith)) (tab-same n (λ i. f (suc i)) (λ i. g (suc i)) (λ i k. h (suc i) (omega arith)))
 
@@ -132,23 +133,25 @@ rows-next : (l : Library) (n : ℕ) → rowsOf l (n + 1) ≡ rowsOf l n ++ rowAt
 unfolding rowsOf
 rows-next l n = rw add-one (tab-next n (rowAt l))
 
+module _ {id from : ℕ} {l : Library} (s : Strikes id from l) where
+  first-most : from ≤ l .used
+  first-most = omega (arith, s .first, leading-most id (take (l .used) (l .ids)), length-take-le (l .used) (l .ids) (s .room .1 .0))
+
+  -- the rows before it are of other ids
+  pub before-first : (j : ℕ) → j < from → eqb (getD (l .ids) j 0) id ≡ false
+  before-first j h =
+      sym (ap (λ (i : ℕ). eqb i id) (getD-take (l .used) (l .ids) j 0 (omega (arith, first-most))))
+      ∙ leading-before id (take (l .used) (l .ids)) j (omega (arith, s .first))
+
 pub closing-start : {id from : ℕ} (l : Library) → Strikes id from l → Closing id from from l (counted 0 l)
 unfolding rowsOf
 closing-start {id} {from} l s = record {
-  upto = most;
+  upto = first-most s;
   lower = omega arith;
-  front = sym (without-tab id from (rowAt l) other);
+  front = sym (without-tab id from (rowAt l) (before-first s));
   rest = λ j h. refl;
   lengths-are = refl;
 }
-  where
-    most : from ≤ l .used
-    most = omega (arith, s .first, leading-most id (take (l .used) (l .ids)), length-take-le (l .used) (l .ids) (s .room .1 .0))
-
-    other : (j : ℕ) → j < from → eqb (getD (l .ids) j 0) id ≡ false
-    other j h =
-        sym (ap (λ (i : ℕ). eqb i id) (getD-take (l .used) (l .ids) j 0 (omega (arith, most))))
-        ∙ leading-before id (take (l .used) (l .ids)) j (omega (arith, s .first))
 
 -- the lists are as long as they were
 pub closing-room : {id at i : ℕ} {l now : Library} → Closing id at i l now → (n : ℕ) → n ≤ l .used → Room l (l .used) → Room now n
@@ -221,60 +224,6 @@ unfolding table
 closing-end {id} {at} {i} {l} {now} g h =
     let e : i ≡ l .used = omega (arith, g .upto) in
     record { rows = g .front ∙ ap (λ (n : ℕ). without id (rowsOf l n)) e; lengths-are = g .lengths-are }
-
--- ---- zeros from an index on
-
-module _ {A : Type 0} (v : A) where
-  cleared-set : (s : List A) (i : ℕ) → i < length s → cleared v (suc i) (set s i v) ≡ cleared v i s
-  unfolding cleared
-  cleared-set [] i h = absurd (not-suc-le-zero h)
-  cleared-set (x ∷ s) zero h = refl
-  cleared-set (x ∷ s) (suc i) h = ap (λ (r : List A). x ∷ r) (cleared-set s i (le-of-suc-le-suc h))
-
-  cleared-next : (s : List A) (i : ℕ) → i < length s → cleared v (i + 1) (set s i v) ≡ cleared v i s
-  cleared-next s i h = rw add-one (cleared-set s i h)
-
-  cleared-end : (s : List A) (i : ℕ) → length s ≤ i → cleared v i s ≡ s
-  unfolding cleared
-  cleared-end [] i h = refl
-  cleared-end (x ∷ s) zero h = absurd (not-suc-le-zero h)
-  cleared-end (x ∷ s) (suc i) h = ap (λ (r : List A). x ∷ r) (cleared-end s i (le-of-suc-le-suc h))
-
-  pub record Clearing (from i : ℕ) (s now : List A) : Type 0 where
-    pub least : from ≤ i
-    pub long : length now ≡ length s
-    pub same-in-the-end : cleared v i now ≡ cleared v from s
-
-  pub clearing-start : {from : ℕ} (s : List A) → Clearing from from s s
-  clearing-start s = record { least = omega arith; long = refl; same-in-the-end = refl }
-
-  pub clearing-next : {from i : ℕ} {s now : List A} → Clearing from i s now → i < length now → Clearing from (i + 1) s (set now i v)
-  clearing-next {from} {i} {s} {now} g h = record {
-    least = omega (arith, g .least);
-    long = length-set now i v ∙ g .long;
-    same-in-the-end = cleared-next now i h ∙ g .same-in-the-end;
-  }
-
-  pub clearing-end : {from i : ℕ} {s now : List A} → Clearing from i s now → length now ≤ i → now ≡ cleared v from s
-  clearing-end {from} {i} {s} {now} g h = sym (cleared-end now i h) ∙ g .same-in-the-end
-
-  all-cleared : (now old : List A) → length now ≡ length old → cleared v 0 now ≡ map (λ (x : A). v) old
-  unfolding cleared
-  all-cleared [] [] m = refl
-  all-cleared [] (y ∷ old) m = absurd (omega arith)
-  all-cleared (x ∷ now) [] m = absurd (omega arith)
-  all-cleared (x ∷ now) (y ∷ old) m = ap (λ (r : List A). v ∷ r) (all-cleared now old (omega arith))
-
-  -- as the layout has it: what is written over a list of as many zeros
-  cleared-over : (new now old : List A) → new ≡ take (length new) now → length now ≡ length old → cleared v (length new) now ≡ over new (map (λ (x : A). v) old)
-  unfolding cleared over
-  cleared-over [] now old e m = all-cleared now old m
-  cleared-over (a ∷ new) [] old e m = let z : _≡_ {A = ℕ} (length (a ∷ new)) 0 = ap length e in absurd (omega arith)
-  cleared-over (a ∷ new) (x ∷ now) [] e m = absurd (omega arith)
-  cleared-over (a ∷ new) (x ∷ now) (y ∷ old) e m =
-      let h : a ≡ x = cc in
-      let t : new ≡ take (length new) now = cc in
-      rw h (ap (λ (r : List A). x ∷ r) (cleared-over new now old t (omega arith)))
 
 -- ---- the rows that are left, with zeros past them
 

@@ -1,8 +1,8 @@
 -- What the crate's inner functions ask and ensure. Definitions only.
-use Prim.Native.Nat.{ℕ, zero, suc, _+_, _≤_}
+use Prim.Native.Nat.{ℕ, _+_, _≤_}
 use mathlib.Core.Path.{_≡_}
 use mathlib.Core.Bool.{cond}
-use mathlib.Core.List.{List, [], _∷_}
+use mathlib.Core.List.{List}
 use lib.Dec.{eqb}
 use lib.ListN.{getD, set, take}
 use Rattle.basics.specs.Lists.{leading}
@@ -10,14 +10,7 @@ use Rattle.floats.specs.Rounded.{zeroF}
 use Rattle.table.specs.declared.Row.{Row}
 use Rattle.table.specs.Rows.{idIn, without}
 use Rattle.table.specs.Library.{Library, library, rowAt, rowsOf, table, write, blank, lengths}
-use Rattle.table.specs.Posts.{Room, eachOf, written}
-
--- ---- one list: l with v from an index to its end
-
-unfoldable pub cleared : {A : Type 0} → A → ℕ → List A → List A
-cleared v n [] = []
-cleared v zero (x ∷ l) = v ∷ cleared v zero l
-cleared v (suc n) (x ∷ l) = x ∷ cleared v n l
+use Rattle.table.specs.Posts.{cleared, Room, eachOf, written}
 
 -- ---- the rows of an id taken out
 

@@ -4,14 +4,13 @@ ghost use mathlib.Core.Bool.{cond};
 ghost use Prim.Native.Nat.{_+_, _^_, _≤_, _<_};
 ghost use lib.ListN.{length, take};
 ghost use lib.Ieee.{nan};
-ghost use Rattle.floats.specs.Rounded.{zeroF};
 ghost use Rattle.table.specs.Rows.{without};
 ghost use Rattle.table.specs.Library.{library};
 ghost use Rattle.table.specs.Posts.{Room, lists};
 ghost use Rattle.rows.specs.Turn.{Gives};
 ghost use Rattle.strike.specs.Strike.{striking, struck, leftAfter};
 ghost use Rattle.basics.specs.Lists.{leading};
-ghost use Rattle.strike.specs.Posts.{Strikes, two, Lowered, LoweredTwo, Closed, cleared, clearedRows, Leaves};
+ghost use Rattle.strike.specs.Posts.{Strikes, two, Lowered, LoweredTwo, Closed, clearedRows, Leaves};
 use grid_search::GridSearch;
 use table::ItemId;
 
@@ -22,7 +21,7 @@ pub enum Struck {
 }
 
 // The first of the rows that is of this id, or `used` where none is.
-fn first_with(ids: &[u64], used: usize, id: u64) -> usize
+pub fn first_with(ids: &[u64], used: usize, id: u64) -> usize
     requires { ⌜ used ≤ length (now ids) ⌝ }
     ensures { λ r. ⌜ r ≡ leading id (take used (now (ids .entry))) ⌝ }
 {
@@ -37,7 +36,7 @@ fn first_with(ids: &[u64], used: usize, id: u64) -> usize
 }
 
 // The index after `at`, or `at` itself where what is there may be written over.
-fn next_unless(again: bool, at: usize) -> usize
+pub fn next_unless(again: bool, at: usize) -> usize
     requires { ⌜ at < 2 ^ 63 ⌝ }
     ensures { λ r. ⌜ (r ≡ cond again at (at + 1)) × (r ≤ at + 1) ⌝ }
 {
@@ -139,29 +138,6 @@ fn close_gaps(
     at
 }
 
-// Writes 0 from an index to the end.
-fn clear_u64(s: &mut [u64], from: usize)
-    requires { ⌜ from ≤ length (now s) ⌝ }
-    ensures { λ _. ⌜ now (s .exit) ≡ cleared 0 from (now (s .entry)) ⌝ }
-{
-    let mut i = from;
-    while i < s.len() {
-        s[i] = 0;
-        i += 1;
-    }
-}
-
-fn clear_f64(s: &mut [f64], from: usize)
-    requires { ⌜ from ≤ length (now s) ⌝ }
-    ensures { λ _. ⌜ now (s .exit) ≡ cleared zeroF from (now (s .entry)) ⌝ }
-{
-    let mut i = from;
-    while i < s.len() {
-        s[i] = 0.0;
-        i += 1;
-    }
-}
-
 // Writes 0 or +0 into every entry from an index to the end.
 fn clear_rows(
     keys: &mut [u64],
@@ -175,16 +151,16 @@ fn clear_rows(
     ensures { λ _. ⌜ lists (now (keys .exit)) (now (ids .exit)) (now (xs .exit)) (now (ys .exit)) (now (zs .exit))
         ≡ clearedRows from (lists (now (keys .entry)) (now (ids .entry)) (now (xs .entry)) (now (ys .entry)) (now (zs .entry))) ⌝ }
 {
-    clear_u64(keys, from);
-    clear_u64(ids, from);
-    clear_f64(xs, from);
-    clear_f64(ys, from);
-    clear_f64(zs, from);
+    table::clear_u64(keys, from);
+    table::clear_u64(ids, from);
+    table::clear_f64(xs, from);
+    table::clear_f64(ys, from);
+    table::clear_f64(zs, from);
 }
 
 // Takes the rows of an id out, of which none stands before `from`: the others close up in their order, and every entry past
 // them becomes 0 or +0. Returns how many are left.
-fn remove(
+pub fn remove(
     keys: &mut [u64],
     ids: &mut [u64],
     xs: &mut [f64],

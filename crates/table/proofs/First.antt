@@ -20,7 +20,7 @@ use Rattle.table.proofs.Order.{Lex, before-lex, sorted-at}
 
 -- ---- the keys of slots in strict order do not descend
 
-key-le : (p q : Slot) → before p q ≡ true → p .key ≤ q .key
+pub key-le : (p q : Slot) → before p q ≡ true → p .key ≤ q .key
 unfolding Lex
 key-le p q b = ⊎-elim (λ h. omega arith) (λ h. omega arith) (before-lex p q b)
 

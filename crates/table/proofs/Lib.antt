@@ -8,3 +8,5 @@ pub mod Stored
 pub mod All
 pub mod Count
 pub mod Ids
+pub mod Cleared
+pub mod Runs

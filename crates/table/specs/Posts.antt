@@ -59,6 +59,13 @@ opened zero (suc n) v (x ∷ l) = v ∷ opened zero n x l
 opened (suc at) zero v (x ∷ l) = x ∷ l
 opened (suc at) (suc n) v (x ∷ l) = x ∷ opened at n v l
 
+-- the same list with v from an index to its end
+
+unfoldable pub cleared : {A : Type 0} → A → ℕ → List A → List A
+cleared v n [] = []
+cleared v zero (x ∷ l) = v ∷ cleared v zero l
+cleared v (suc n) (x ∷ l) = x ∷ cleared v n l
+
 -- ---- a library
 
 -- each list has at least n entries

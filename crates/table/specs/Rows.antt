@@ -56,6 +56,11 @@ unfoldable pub lead : ℕ → List ℕ → ℕ
 lead key [] = 0
 lead key (k ∷ ks) = cond (ltb k key) (suc (lead key ks)) 0
 
+-- how many of the keys from the front are this one: how many rows a container has from its first on
+unfoldable pub run : ℕ → List ℕ → ℕ
+run key [] = 0
+run key (k ∷ ks) = let rest = run key ks in cond (eqb k key) (suc rest) 0
+
 -- the slot at an index of two lists, and the first n of them
 abbrev pub slotAt : List ℕ → List ℕ → ℕ → Slot
 slotAt keys ids i = record { key = getD keys i 0; id = getD ids i 0 }

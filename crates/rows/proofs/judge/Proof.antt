@@ -1,68 +1,21 @@
--- `judge` meets its contract: a law for each way out.
+-- `judge` meets its contract: the library's tests, and then those of the mark.
 -- Assumes nothing.
 use mathlib.Core.Path.{sym, _∙_}
-use lib.Seq.{length-take-le}
 use borrow.Author.Needs.{needs}
-use Rattle.table.proofs.Libraries.{ordered}
-use Rattle.rows.proofs.Answers.{called, called-sheet, called-order, called-inside, refused-first, judged-exceeds, judged-full, judged-into}
+use Rattle.rows.proofs.Check.{numbered}
+use Rattle.rows.proofs.Answers.{refused-damage}
 use Rattle.rows.proofs.judge.Statement.{statement}
 use Rattle.rows.proofs.judge.Tie as tie
 
 returns : tie.Need-returns
-returns c = let a = c .before .before .before .before .before .before .before .before .before in refused-first (a .args .sheet) _ (a .args .id) (a .args .x .now) (c .before .call-fault .ensures) (c .if1 .taken)
+returns c =
+    let a = c .before .before .before .before .before .before .before .before .before in
+    refused-damage (a .args .sheet) _ (a .args .id) (a .args .x .now) (c .before .library-fault .ensures) (c .if1 .taken)
 
-find-targets-requires : tie.Need-find-targets-requires
-find-targets-requires c κs =
-    let a = c .before .before .before .before .before .before .before .before .before .before .before in
-    let s = a .args .sheet in
-    let x = a .args .x .now in
-    let k = called s _ x (sym (c .before .before .if1 .left) ∙ c .before .before .before .call-fault .ensures) in
-    (called-sheet s _ x k, (called-inside s _ x k (c .new .ensures), a .pre))
-
-returns-2 : tie.Need-returns-2
-returns-2 c =
-    let a = c .before .before .before .before .before .before .before .before .before .before .before .before .before .before .before in
-    let k = called (a .args .sheet) _ (a .args .x .now) (sym (c .before .before .before .before .before .before .if1 .left) ∙ c .before .before .before .before .before .before .before .call-fault .ensures) in
-    let n = c .before .before .before .before .new in
-    judged-exceeds (a .args .sheet) _ (a .args .id) (a .args .x .now) (n .result) (n .ensures) k (c .before .before .before .find-targets .ensures) (c .if2 .taken)
-
-slice-aggregate-rows-after : tie.Need-slice-aggregate-rows-after
-slice-aggregate-rows-after c = let f = c .before .before .before .before .find-targets in sym (length-take-le (f .result) (f .last .1 .0) (f .ensures .most))
-
-rows-after-requires : tie.Need-rows-after-requires
-rows-after-requires c κs =
-    let a = c .before .before .before .before .before .before .before .before .before .before .before .before .before .before .before .before in
-    let k = called (a .args .sheet) _ (a .args .x .now) (sym (c .before .before .before .before .before .before .before .if1 .left) ∙ c .before .before .before .before .before .before .before .before .call-fault .ensures) in
-    ordered (called-order (a .args .sheet) _ (a .args .x .now) k)
-
-returns-3 : tie.Need-returns-3
-returns-3 c =
-    let a = c .before .before .before .before .before .before .before .before .before .before .before .before .before .before .before .before .before .before in
-    let k = called (a .args .sheet) _ (a .args .x .now) (sym (c .before .before .before .before .before .before .before .before .before .if1 .left) ∙ c .before .before .before .before .before .before .before .before .before .before .call-fault .ensures) in
-    let n = c .before .before .before .before .before .before .before .new in
-    judged-full (a .args .sheet) _ (a .args .id) (a .args .x .now) (n .result) (n .ensures) k (c .before .before .before .before .before .before .find-targets .ensures) (c .before .before .before .if2 .left) (c .before .rows-after .ensures) (c .if3 .taken)
-
-returns-4 : tie.Need-returns-4
-returns-4 c =
-    let a = c .before .before .before .before .before .before .before .before .before .before .before .before .before .before .before .before .before .before in
-    let k = called (a .args .sheet) _ (a .args .x .now) (sym (c .before .before .before .before .before .before .before .before .before .if1 .left) ∙ c .before .before .before .before .before .before .before .before .before .before .call-fault .ensures) in
-    let n = c .before .before .before .before .before .before .before .new in
-    judged-into (a .args .sheet) _ (a .args .id) (a .args .x .now) (n .result) (n .ensures) k (c .before .before .before .before .before .before .find-targets .ensures) (c .before .before .before .if2 .left) (c .before .rows-after .ensures) (c .if3 .left)
+judge-mark-requires : tie.Need-judge-mark-requires
+judge-mark-requires c κs =
+    let a = c .before .before .before .before .before .before .before .before .before .before in
+    (numbered (a .args .sheet) _ (sym (c .before .if1 .left) ∙ c .before .before .library-fault .ensures), a .pre)
 
 pub judge-spec : {M : Type 1} → statement M
-judge-spec =
-    tie.close
-    (tie.spec
-    (λ c κs. search needs)
-    returns
-    (λ c κs. search needs)
-    find-targets-requires
-    (λ c. search needs)
-    returns-2
-    (λ c. search needs)
-    slice-aggregate-rows-after
-    rows-after-requires
-    (λ c. search needs)
-    returns-3
-    (λ c. search needs)
-    returns-4)
+judge-spec = tie.close (tie.spec (λ c κs. search needs) returns judge-mark-requires (λ c. search needs) (λ c. search needs))
