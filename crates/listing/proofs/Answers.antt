@@ -13,7 +13,7 @@ use Rattle.basics.proofs.Bools.{and-left, or-left, or-right}
 use Rattle.basics.specs.Lists.{any, tab}
 use Rattle.basics.proofs.Lists.{all-at, getD-tab, length-tab}
 use Rattle.basics.specs.Refusals.{Test, refuse, fault, code}
-use Rattle.basics.proofs.Refusals.{unrefused, fault-right, fault-stop, code-none}
+use Rattle.basics.proofs.Refusals.{unrefused, fault-right, fault-stop, code-none, code-some}
 use Rattle.geometry.specs.Position.{dimension}
 use Rattle.grid.specs.Divisions.{counts}
 use Rattle.grid.specs.Containers.{containers}
@@ -32,14 +32,6 @@ use Rattle.listing.specs.Listing.{idsOf, occupied, idsOn, onTests, listi
 use Rattle.basics.specs.Filled.{fill}
 use Rattle.listing.specs.Posts.{Known, Out}
 
--- ---- refusals as numbers
-
--- a number that is not 0 is that of a test that failed
-some-code : (o : Option ℕ) (n : ℕ) → n ≡ code o → (n ≡ 0 → ⊥) → o ≡ some n
-unfolding code
-some-code none n e ne = absurd (ne e)
-some-code (some m) n e ne = ap some (sym e)
-
 module _ (s : GridSearch) (l : Library) (p : Asked) (f : Filter) (list : List ℕ) where
   abbrev ours : List Test
   ours = placeTests s p f (occupied (table l))
@@ -53,12 +45,12 @@ module _ (s : GridSearch) (l : Library) (p : Asked) (f : Filter) (list : List �
 
   pub bad-library : (n : ℕ) → n ≡ code (fault (libraryTests s l)) → (n ≡ 0 → ⊥) → Lists (listing s l p f list) (Refused n) list
   unfolding listingTests onTests
-  bad-library n e ne = stopped n (fault-stop (libraryTests s l ++ ours) last n (fault-stop (libraryTests s l) ours n (some-code (fault (libraryTests s l)) n e ne)))
+  bad-library n e ne = stopped n (fault-stop (libraryTests s l ++ ours) last n (fault-stop (libraryTests s l) ours n (code-some (fault (libraryTests s l)) n e ne)))
 
   module _ (ok : fault (libraryTests s l) ≡ none) where
     pub bad-place : (n : ℕ) → n ≡ code (fault (placeTests s p f (occupied (table l)))) → (n ≡ 0 → ⊥) → Lists (listing s l p f list) (Refused n) list
     unfolding listingTests onTests
-    bad-place n e ne = stopped n (fault-stop (libraryTests s l ++ ours) last n (fault-right (libraryTests s l) ours ok ∙ some-code (fault ours) n e ne))
+    bad-place n e ne = stopped n (fault-stop (libraryTests s l ++ ours) last n (fault-right (libraryTests s l) ours ok ∙ code-some (fault ours) n e ne))
 
     -- only 14 is left
     pub listed-out : fault (placeTests s p f (occupied (table l))) ≡ none → (r : Listed) (after : List ℕ) → Out (idsOn s l p f) list r after → Lists (listing s l p f list) r after
@@ -143,13 +135,13 @@ module _ (s : GridSearch) (l : Library) (p : Place) (f : Filter) where
 
 -- ---- the call as the code makes it
 
--- the library passes
-module _ (s : GridSearch) (l : Library) {damage : ℕ} (is-damage : damage ≡ code (fault (libraryTests s l))) (sound : damage ≡ 0) where
-  passes-library : fault (libraryTests s l) ≡ none
-  passes-library = numbered s l (sym sound ∙ is-damage)
+pub passes-library : (s : GridSearch) (l : Library) {damage : ℕ} → damage ≡ code (fault (libraryTests s l)) → damage ≡ 0 → fault (libraryTests s l) ≡ none
+passes-library s l is-damage sound = numbered s l (sym sound ∙ is-damage)
 
+-- the library passes
+module _ (s : GridSearch) (l : Library) (ok : fault (libraryTests s l) ≡ none) where
   pub axes : dimension (s .ndim) ≡ true
-  axes = divided s (whole s l passes-library .sheet) .axes
+  axes = divided s (whole s l ok .sheet) .axes
 
   -- and the place
   module _ (p : Asked) (f : Filter) {refusal : ℕ} (is-refusal : refusal ≡ code (fault (placeTests s p f (ltb 0 (l .used))))) (placed : refusal ≡ 0) where
@@ -157,34 +149,32 @@ module _ (s : GridSearch) (l : Library) {damage : ℕ} (is-damage : damage ≡ c
     passes-place = place-numbered s p f (ltb 0 (l .used)) (sym placed ∙ is-refusal)
 
     pub walks : (on : Place) → asked (s .ndim) on ≡ p → Known s l on f
-    walks on same = known s l on f passes-library (subst (λ (q : Asked). Fit s q f) (sym same) (fit s p f (ltb 0 (l .used)) passes-place))
+    walks on same = known s l on f ok (subst (λ (q : Asked). Fit s q f) (sym same) (fit s p f (ltb 0 (l .used)) passes-place))
 
 module _ (s : GridSearch) (l : Library) (p : Asked) (f : Filter) (list : List ℕ) where
   -- the listing of a place that is the one asked for
   pub as-asked : {q : Asked} → q ≡ p → {r : Listed} {after : List ℕ} → Lists (listing s l q f list) r after → Lists (listing s l p f list) r after
   as-asked e {r} {after} o = subst (λ (x : Asked). Lists (listing s l x f list) r after) e o
 
-  module _ {damage : ℕ} (is-damage : damage ≡ code (fault (libraryTests s l))) where
-    pub turned-away : (damage ≡ 0 → ⊥) → Lists (listing s l p f list) (Refused damage) list
-    turned-away ne = bad-library s l p f list damage is-damage ne
+  pub turned-away : {damage : ℕ} → damage ≡ code (fault (libraryTests s l)) → (damage ≡ 0 → ⊥) → Lists (listing s l p f list) (Refused damage) list
+  turned-away {damage} is-damage ne = bad-library s l p f list damage is-damage ne
 
-    module _ (sound : damage ≡ 0) where
-      module _ {refusal : ℕ} (is-refusal : refusal ≡ code (fault (placeTests s p f (ltb 0 (l .used))))) where
-        pub misplaced : (refusal ≡ 0 → ⊥) → Lists (listing s l p f list) (Refused refusal) list
-        misplaced ne =
-            bad-place s l p f list (passes-library s l is-damage sound) refusal (is-refusal ∙ ap (λ (b : Bool). code (fault (placeTests s p f b))) (occupied-used l)) ne
+  module _ (ok : fault (libraryTests s l) ≡ none) where
+    module _ {refusal : ℕ} (is-refusal : refusal ≡ code (fault (placeTests s p f (ltb 0 (l .used))))) where
+      pub misplaced : (refusal ≡ 0 → ⊥) → Lists (listing s l p f list) (Refused refusal) list
+      misplaced ne = bad-place s l p f list ok refusal (is-refusal ∙ ap (λ (b : Bool). code (fault (placeTests s p f b))) (occupied-used l)) ne
 
-        pub gives : refusal ≡ 0 → (on : Place) → asked (s .ndim) on ≡ p → {r : Listed} {after : List ℕ}
-            → Out (idsOf (isOn s (asked (s .ndim) on) f) (table l)) list r after → Lists (listing s l p f list) r after
-        unfolding idsOn
-        gives placed on same {r} {after} o =
-            listed-out s l p f list (passes-library s l is-damage sound)
-            (ap (λ (b : Bool). fault (placeTests s p f b)) (sym (occupied-used l)) ∙ passes-place s l is-damage sound p f is-refusal placed) r after
-            (subst (λ (q : Asked). Out (idsOf (isOn s q f) (table l)) list r after) same o)
+      pub gives : refusal ≡ 0 → (on : Place) → asked (s .ndim) on ≡ p → {r : Listed} {after : List ℕ}
+          → Out (idsOf (isOn s (asked (s .ndim) on) f) (table l)) list r after → Lists (listing s l p f list) r after
+      unfolding idsOn
+      gives placed on same {r} {after} o =
+          listed-out s l p f list ok
+          (ap (λ (b : Bool). fault (placeTests s p f b)) (sym (occupied-used l)) ∙ passes-place s l ok p f is-refusal placed) r after
+          (subst (λ (q : Asked). Out (idsOf (isOn s q f) (table l)) list r after) same o)
 
-      -- turned away by 16 or 2, before a place is made
-      pub not-there : (unfit (s .ndim) p || unfitFilter (s .ndim) f) ≡ true → Lists (listing s l p f list) (Refused 16) list
-      not-there e = misplaced (place-16 s p f (ltb 0 (l .used)) e) (λ q. omega arith)
+    -- turned away by 16 or 2, before a place is made
+    pub not-there : (unfit (s .ndim) p || unfitFilter (s .ndim) f) ≡ true → Lists (listing s l p f list) (Refused 16) list
+    not-there e = misplaced (place-16 s p f (ltb 0 (l .used)) e) (λ q. omega arith)
 
-      pub other-length : (dimension (s .ndim) ≡ true → ((unfit (s .ndim) p || unfitFilter (s .ndim) f) ≡ false) × (wrongLength (s .ndim) p ≡ true)) → Lists (listing s l p f list) (Refused 2) list
-      other-length h = let d = axes s l is-damage sound in misplaced (place-2 s p f (ltb 0 (l .used)) (h d .0) (h d .1)) (λ q. omega arith)
+    pub other-length : ((unfit (s .ndim) p || unfitFilter (s .ndim) f) ≡ false) × (wrongLength (s .ndim) p ≡ true) → Lists (listing s l p f list) (Refused 2) list
+    other-length h = misplaced (place-2 s p f (ltb 0 (l .used)) (h .0) (h .1)) (λ q. omega arith)

@@ -6,27 +6,33 @@ use mathlib.Core.Path.{_≡_, refl, sym, ap, ap₂, _∙_}
 use mathlib.Core.Logic.{_⊎_, inl, inr}
 use mathlib.Core.Bool.{Bool, true, false, not, _&&_, _||_}
 use mathlib.Core.List.{List}
-use lib.Dec.{eqb, leb, ltb}
+use lib.Dec.{T, eqb, leb, ltb}
 use lib.ListN.{length, getD}
-use lib.Ieee.{Float}
+use lib.Ieee.{Float, inf, binary64, fits, lt, eq, le}
 use borrow.Author.Tests.{eqb-true, eq-eqb, ne-eqb, not-true, not-false, leb-true, leb-false, le-leb, ltb-false, le-ltb}
-use Rattle.basics.proofs.Bools.{by-test, and-left, and-right, or-left, or-right}
+use Rattle.basics.proofs.Bools.{by-test, clash, and-left, and-right, or-left, or-right}
 use Rattle.basics.specs.Lists.{zipWith}
-use Rattle.floats.specs.Rounded.{_⊖_, zeroF}
+use Rattle.floats.specs.Rounded.{_⊕_, _⊖_, zeroF}
 use Rattle.floats.specs.Tests.{within}
+use Rattle.floats.proofs.Order.{eq-le, eq-turn, le-join}
+use Rattle.floats.proofs.Cases.{zero-of}
+use Rattle.floats.proofs.Choices.{abs-zero, abs-other}
+use Rattle.floats.specs.Sqrt.{sqrtOf}
 use Rattle.geometry.specs.declared.Position.{Position}
 use Rattle.geometry.specs.Position.{coords, positionOf, axisOf, dimension}
+use Rattle.geometry.specs.Distances.{pointSquare, lineSquare, pointPoint, pointLine, pointCircle, pointCylinder}
 use Rattle.geometry.proofs.Axes.{for-axes, coords-length, axis-entry, coords-of}
 use Rattle.grid.specs.Divisions.{counts}
 use Rattle.grid.specs.Containers.{pivots, centre}
 use Rattle.grid_search.specs.declared.GridSearch.{GridSearch}
+use Rattle.windows.specs.declared.Distance.the-variants.{Root, RootLess}
 use Rattle.windows.specs.declared.Window.{Window}
-use Rattle.windows.specs.Window.{lies}
-use Rattle.windows.proofs.Tellings.{magnitude-lies}
+use Rattle.windows.specs.Window.{toldBy, lies}
+use Rattle.windows.proofs.Tellings.{magnitude-lies, unbounded}
 use Rattle.listing.specs.declared.Place.{Place}
 use Rattle.listing.specs.declared.Place.the-variants as place
 use Rattle.listing.specs.declared.Filter.{Filter}
-use Rattle.listing.specs.Place.{Asked, line, circle, cylinder, plane, unknown, askedOf, asked, placeDistance, centreOf, unfit, unfitFilter, wrongLength}
+use Rattle.listing.specs.Place.{Asked, line, circle, cylinder, plane, unknown, askedOf, asked, placeDistance, centreOf, containerNear, unfit, unfitFilter, wrongLength}
 use Rattle.listing.specs.Posts.{Stands}
 use Rattle.listing.specs.Ready.{Even}
 
@@ -158,10 +164,8 @@ right-lengths n (place.PlaneXZ y) d = refl
 
 module _ {p : ℕ} {a b : List Float} {v : Float} {on : Place} (s : Stands p a b v on) (n : ℕ) where
   -- the place is the one that was asked for
-  pub one-place : {d w : Bool} → d ≡ dimension n → w ≡ wrongLength n (askedOf p a b v) → (d && (leb p 5 && not w)) ≡ true → asked n on ≡ askedOf p a b v
-  one-place {d} {w} e g t =
-      let r : (leb p 5 && not w) ≡ true = and-right d (leb p 5 && not w) t in
-      s .same n (sym e ∙ and-left d (leb p 5 && not w) t) (leb-true p 5 (and-left (leb p 5) (not w) r)) (sym g ∙ not-true w (and-right (leb p 5) (not w) r))
+  pub one-place : {w : Bool} → dimension n ≡ true → w ≡ wrongLength n (askedOf p a b v) → (leb p 5 && not w) ≡ true → asked n on ≡ askedOf p a b v
+  one-place {w} d g t = s .same n d (leb-true p 5 (and-left (leb p 5) (not w) t)) (sym g ∙ not-true w (and-right (leb p 5) (not w) t))
 
   module _ (f : Filter) {u g : Bool} (e : u ≡ unfit n (asked n on)) (k : g ≡ unfitFilter n f) where
     -- 16
@@ -173,15 +177,41 @@ module _ {p : ℕ} {a b : List Float} {v : Float} {on : Place} (s : Stands p a b
         (λ h. rw (is-unknown p a b v (leb-false p 5 h)))
 
     -- 2, where no place was made and 16 does not apply
-    pub wrong-length : {d w : Bool} → w ≡ wrongLength n (askedOf p a b v) → d ≡ true → (ltb 5 p || (u || g)) ≡ false → (d && (leb p 5 && not w)) ≡ false
+    pub wrong-length : {w : Bool} → w ≡ wrongLength n (askedOf p a b v) → (ltb 5 p || (u || g)) ≡ false → (leb p 5 && not w) ≡ false
         → ((unfit n (askedOf p a b v) || unfitFilter n f) ≡ false) × (wrongLength n (askedOf p a b v) ≡ true)
-    wrong-length {d} {w} i j t m =
+    wrong-length {w} i t m =
         let h : p ≤ 5 = ltb-false 5 p (or-left (ltb 5 p) (u || g) t) in (
           ap₂ (λ (x y : Bool). x || y) (sym (e ∙ s .alike n h)) (sym k) ∙ or-right (ltb 5 p) (u || g) t,
-          sym i ∙ not-false w (rw (j, le-leb p 5 h) at m),
+          sym i ∙ not-false w (rw (le-leb p 5 h) at m),
         )
 
 -- ---- distances
+
+-- equal values are compared alike: a zero of either sign
+same-le : (x y t : Float) → eq x y ≡ true → le x t ≡ le y t
+same-le x y t e =
+    by-test (le x t) (λ a. a ∙ sym (le-join y x t (eq-le y x (eq-turn x y e)) a))
+    (λ a. by-test (le y t) (λ b. clash (le-join x y t (eq-le x y e) b) a) (λ b. a ∙ sym b))
+
+-- a value that is not below zero is compared as its magnitude is
+pub not-below : (x t : Float) → T (fits binary64 x) → lt x zero-of ≡ false → le x t ≡ within t x
+unfolding within
+not-below x t f h =
+    by-test (eq x zero-of) (λ e. same-le x zero-of t e ∙ ap (λ (v : Float). le v t) (abs-zero x f e)) (λ e. ap (λ (v : Float). le v t) (abs-other x h e))
+
+-- by the square of the distance from a line or a centre
+module _ (n : ℕ) (a b x : Position) {q : Float} where
+  pub line-told : q ≡ lineSquare (coords n a) (coords n b) (coords n x) → toldBy Root q ≡ placeDistance (asked n (place.Line a b)) (coords n x)
+  unfolding asked placeDistance toldBy pointLine
+  line-told e = ap sqrtOf e
+
+  pub cylinder-told : (r : Float) → q ≡ lineSquare (coords n a) (coords n b) (coords n x) → toldBy (RootLess r) q ≡ placeDistance (asked n (place.Cylinder a b r)) (coords n x)
+  unfolding asked placeDistance toldBy pointCylinder pointLine
+  cylinder-told r e = rw e
+
+pub circle-told : (n : ℕ) (a x : Position) (r : Float) {q : Float} → q ≡ pointSquare (coords n a) (coords n x) → toldBy (RootLess r) q ≡ placeDistance (asked n (place.Circle a r)) (coords n x)
+unfolding asked placeDistance toldBy pointCircle pointPoint
+circle-told n a x r e = rw e
 
 -- from a plane, which is in space: by its magnitude
 pub plane-lies : (n k : ℕ) (v : Float) (x : Position) (w : Window) → dimension n ≡ true → unfit n (plane k v) ≡ false → k < 3 → Even w
@@ -199,3 +229,15 @@ centre-coords s key p d e = coords-of (s .ndim) (centreOf s key) p d (for-axes l
   where
     long : ℕ → Type 0
     long n = length (centre (s .«side_length») (coords n (s .xmin)) (pivots (counts n (s .ndiv)) key)) ≡ n
+
+-- a centre that lies in the window of the containers near a place
+pub center-near : (s : GridSearch) (a : Asked) (key : ℕ) (c : Position) (w : Window) {b : Bool} → coords (s .ndim) c ≡ centreOf s key → w .from ≡ inf true → w .to ≡ s .radius ⊕ s .«tol_dist»
+    → b ≡ lies (w .from) (w .to) (placeDistance a (coords (s .ndim) c)) → b ≡ containerNear s a key
+unfolding containerNear
+center-near s a key c w at from to e =
+    let d = placeDistance a (coords (s .ndim) c) in
+    e
+    ∙ ap (λ (f : Float). lies f (w .to) d) from
+    ∙ unbounded (w .to) d
+    ∙ ap (λ (t : Float). le d t) to
+    ∙ ap (λ (x : List Float). le (placeDistance a x) (s .radius ⊕ s .«tol_dist»)) at

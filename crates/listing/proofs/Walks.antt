@@ -1,4 +1,4 @@
--- The walk over the rows: what a turn adds to the rows gathered, what is gathered at its end, and what the ids written are.
+-- The walk over the rows, from container to container: what a turn adds to the rows gathered, what is gathered at its end, and what the ids written are.
 -- Assumes nothing.
 use Prim.Native.Nat.{ℕ, zero, suc, _+_, _-_, _≤_, _<_}
 use native.Mathlib.Numerals.{add-one}
@@ -27,11 +27,23 @@ use Rattle.listing.specs.declared.Place.{Place}
 use Rattle.listing.specs.declared.Filter.{Filter}
 use Rattle.listing.specs.declared.Listed.{Listed}
 use Rattle.listing.specs.declared.Listed.the-variants.{Count, Refused}
+use Rattle.listing.specs.declared.walk.Stretch.{Stretch}
 use Rattle.listing.specs.declared.walk.Reached.{Reached}
 use Rattle.listing.specs.Place.{Asked, asked, isOn, containerNear, pointNear, passes}
 use Rattle.listing.specs.Listing.{idsOf}
 use Rattle.basics.specs.Filled.{fill}
-use Rattle.listing.specs.Posts.{Remembered, Gathered, Walked, Out}
+use Rattle.listing.specs.Posts.{Counted, Stretched, Gathered, Walked, Out}
+
+-- ---- whether a row counts, by its container and by itself
+
+module _ (s : GridSearch) (p : Asked) (f : Filter) (row : Row) where
+  pub row-far : containerNear s p (keyIn row) ≡ false → isOn s p f row ≡ false
+  unfolding isOn
+  row-far e = rw e
+
+  pub row-near : containerNear s p (keyIn row) ≡ true → (at : Position) (r : Bool) → at ≡ row .at → r ≡ (pointNear s p (coords (s .ndim) at) && passes f (coords (s .ndim) at)) → r ≡ isOn s p f row
+  unfolding isOn
+  row-near e at r same g = rw e (g ∙ ap (λ (x : Position). pointNear s p (coords (s .ndim) x) && passes f (coords (s .ndim) x)) same)
 
 -- ---- one more row
 
@@ -48,14 +60,8 @@ keep-append p (x ∷ xs) ys = by-test (p x) (λ e. rw e (ap (λ (l : List _). x 
 pub last-place : (b : Bool) (n m room : ℕ) → m ≡ cond b (n + 1) n → n < room → m ≡ room → room ≡ n + 1
 last-place b n m room more h e = by-test b (λ q. let c : m ≡ n + 1 = rw q at more in omega (arith, c, e)) (λ q. let c : m ≡ n = rw q at more in absurd (omega (arith, c, e, h)))
 
-remembered-next : (s : GridSearch) (p : Place) (keys : List ℕ) (i : ℕ) (near : Bool) → near ≡ containerNear s (asked (s .ndim) p) (getD keys i 0) → Remembered s p keys (i + 1) near
-remembered-next s p keys i near e h = let q : i + 1 - 1 ≡ i = omega arith in rw q e
-
 abbrev on : GridSearch → Place → Filter → Row → Bool
 on s p f = isOn s (asked (s .ndim) p) f
-
-abbrev at : ℕ → ℕ → Bool → Reached
-at i n near = record { row = i; marked = n; near = near }
 
 rows-next : (l : Library) (i : ℕ) → rowsOf l (i + 1) ≡ rowsOf l i ++ rowAt l i ∷ []
 unfolding rowsOf
@@ -70,7 +76,7 @@ ids-next p l i =
     ∙ by-test (p (rowAt l i)) (λ e. rw e) (λ e. rw e)
 
 module _ {s : GridSearch} {p : Place} {f : Filter} {l : Library} where
-  pub gathered-none : (marks : List ℕ) → Gathered s p f l 0 0 marks
+  gathered-none : (marks : List ℕ) → Gathered s p f l 0 0 marks
   unfolding rowsOf keep
   gathered-none marks = record { upto = omega arith; below = λ i h. absurd (omega arith); ids-are = refl }
 
@@ -119,71 +125,88 @@ module _ {s : GridSearch} {p : Place} {f : Filter} {l : Library} where
         ids-are = ap (map (markId (l .ids))) same ∙ g .ids-are;
       }
 
-  -- ---- a walk: its start, one row more, and its end
+  -- rows that do not count are passed at once
+  gathered-beyond : (d : ℕ) {i n : ℕ} {marks : List ℕ} → Gathered s p f l i n marks → ((j : ℕ) → i ≤ j → j < i + d → on s p f (rowAt l j) ≡ false) → Gathered s p f l (i + d) n marks
+  gathered-beyond zero {i} {n} {marks} g far = let e : i ≡ i + 0 = omega arith in subst (λ (k : ℕ). Gathered s p f l k n marks) e g
+  gathered-beyond (suc d) {i} {n} {marks} g far =
+      let e : i + d + 1 ≡ i + suc d = omega arith in
+      subst (λ (k : ℕ). Gathered s p f l k n marks) e (gathered-passed (gathered-beyond d g (λ j a b. far j a (omega arith))) (far (i + d) (omega arith) (omega arith)))
 
-  pub walked-none : (marks : List ℕ) → 0 < length marks → Walked s p f l (at 0 0 false) marks
-  walked-none marks h = record { upto = omega arith; inside = h; remembered = λ k. absurd (omega arith); gathered = gathered-none marks }
+  -- ---- a walk: its start, one row more, a far container, and its end
 
-  module _ {i n : ℕ} {near : Bool} {marks : List ℕ} (now : Bool) (w : Walked s p f l (at i n near) marks) (h : i < l .used)
-      (e : now ≡ containerNear s (asked (s .ndim) p) (getD (l .keys) i 0)) where
-    -- a row of a far container
-    pub walked-passed : on s p f (rowAt l i) ≡ false → Walked s p f l (at (i + 1) n now) marks
-    walked-passed c = record { upto = omega (arith, h); inside = w .inside; remembered = remembered-next s p (l .keys) i now e; gathered = gathered-passed (w .gathered) c }
+  module _ {counts : List ℕ} {places : ℕ} where
+    pub walked-none : Counted (l .keys) (l .used) counts places → (marks : List ℕ) → 0 < length marks
+        → Walked s p f l counts places (record { row = 0; end = 0; place = 0; marked = 0 }) marks
+    walked-none c marks h = record {
+      upto = omega arith;
+      near = λ i a b. absurd (omega arith);
+      ended = record { upto = omega arith; few = omega arith; counted = c };
+      inside = h;
+      gathered = gathered-none marks;
+    }
 
-    -- a row of a near one
-    pub walked-next : (b : Bool) (m : ℕ) → b ≡ on s p f (rowAt l i) → m ≡ cond b (n + 1) n → (m ≡ length (set marks n i) → ⊥) → Walked s p f l (at (i + 1) m now) (set marks n i)
-    walked-next b m k more room =
-        by-test b
-        (λ q. let c : m ≡ n + 1 = rw q at more in
-        record {
-          upto = omega (arith, h);
-          inside = omega (arith, length-set marks n i, w .inside, room, c);
-          remembered = remembered-next s p (l .keys) i now e;
-          gathered = subst (λ (v : ℕ). Gathered s p f l (i + 1) v (set marks n i)) (sym c) (gathered-marked (w .gathered) (w .inside) (sym k ∙ q));
-        })
-        (λ q. let c : m ≡ n = rw q at more in
-        record {
-          upto = omega (arith, h);
-          inside = omega (arith, length-set marks n i, w .inside, c);
-          remembered = remembered-next s p (l .keys) i now e;
-          gathered = subst (λ (v : ℕ). Gathered s p f l (i + 1) v (set marks n i)) (sym c) (gathered-passed (gathered-behind i (w .gathered)) (sym k ∙ q));
-        })
+    module _ {row end place n : ℕ} {marks : List ℕ} (w : Walked s p f l counts places (record { row = row; end = end; place = place; marked = n }) marks) {t : Stretch}
+        (st : Stretched s p (l .keys) (l .used) counts places row t) where
+      -- a far container
+      pub walked-far : t .near ≡ false → Walked s p f l counts places (record { row = t .end; end = t .end; place = t .place; marked = n }) marks
+      walked-far far =
+          let e : row + (t .end - row) ≡ t .end = omega (arith, st .past) in
+          record {
+            upto = omega arith;
+            near = λ i a b. absurd (omega arith);
+            ended = st .ended;
+            inside = w .inside;
+            gathered = subst (λ (k : ℕ). Gathered s p f l k n marks) e
+                (gathered-beyond (t .end - row) (w .gathered) (λ j a b. row-far s (asked (s .ndim) p) f (rowAt l j) (st .alike j a (omega arith) ∙ far)));
+          }
 
-  -- a row that is given up again, since no place would be left
-  pub walked-back : {i n : ℕ} {near : Bool} {marks : List ℕ} → Walked s p f l (at i n near) marks → Walked s p f l (at i n near) (set marks n i)
-  walked-back {i} {n} {near} {marks} w = record { upto = w .upto; inside = omega (arith, length-set marks n i, w .inside); remembered = w .remembered; gathered = gathered-behind i (w .gathered) }
+      module _ (near : t .near ≡ true) where
+        -- a row of a near one
+        pub walked-next : (b : Bool) (m : ℕ) → b ≡ on s p f (rowAt l row) → m ≡ cond b (n + 1) n → (m ≡ length (set marks n row) → ⊥)
+            → Walked s p f l counts places (record { row = row + 1; end = t .end; place = t .place; marked = m }) (set marks n row)
+        walked-next b m k more room = record {
+          upto = omega (arith, st .past);
+          near = λ i x y. st .alike i (omega arith) y ∙ near;
+          ended = st .ended;
+          inside = by-test b (λ q. let c : m ≡ n + 1 = rw q at more in omega (arith, length-set marks n row, w .inside, room, c)) (λ q. let c : m ≡ n = rw q at more in omega (arith, length-set marks n row, w .inside, c));
+          gathered = by-test b
+              (λ q. let c : m ≡ n + 1 = rw q at more in subst (λ (v : ℕ). Gathered s p f l (row + 1) v (set marks n row)) (sym c) (gathered-marked (w .gathered) (w .inside) (sym k ∙ q)))
+              (λ q. let c : m ≡ n = rw q at more in subst (λ (v : ℕ). Gathered s p f l (row + 1) v (set marks n row)) (sym c) (gathered-passed (gathered-behind row (w .gathered)) (sym k ∙ q)));
+        }
 
-  pub walked-copied : {r : Reached} {few : List ℕ} (more : List ℕ) {after : List ℕ} → after ≡ over (take (r .marked) few) more → r .marked < length after → Walked s p f l r few
-      → Walked s p f l r after
-  walked-copied {r} {few} more {after} e h w = record {
-    upto = w .upto;
-    inside = h;
-    remembered = w .remembered;
-    gathered = subst (Gathered s p f l (r .row) (r .marked)) (sym e) (gathered-copied more (omega (arith, w .inside)) (w .gathered));
-  }
+        -- one that is given up again, since no place would be left
+        pub walked-back : Walked s p f l counts places (record { row = row; end = t .end; place = t .place; marked = n }) (set marks n row)
+        walked-back = record {
+          upto = omega (arith, st .past);
+          near = λ i x y. st .alike i x y ∙ near;
+          ended = st .ended;
+          inside = omega (arith, length-set marks n row, w .inside);
+          gathered = gathered-behind row (w .gathered);
+        }
 
-  pub walked-below : {r : Reached} {marks : List ℕ} → Walked s p f l r marks → l .used ≤ length (l .ids) → (r .marked ≤ length marks) × Indices (length (l .ids)) (r .marked) marks
-  walked-below w h = (omega (arith, w .inside), λ j k. omega (arith, w .gathered .below j k, w .upto))
+    module _ {r : Reached} where
+      pub walked-copied : {few : List ℕ} (more : List ℕ) {after : List ℕ} → after ≡ over (take (r .marked) few) more → r .marked < length after → Walked s p f l counts places r few
+          → Walked s p f l counts places r after
+      walked-copied {few} more {after} e h w = record {
+        upto = w .upto;
+        near = w .near;
+        ended = w .ended;
+        inside = h;
+        gathered = subst (Gathered s p f l (r .row) (r .marked)) (sym e) (gathered-copied more (omega (arith, w .inside)) (w .gathered));
+      }
 
-  -- where the last row was reached, the ids of the marks are those of the listing
-  pub walked-all : {r : Reached} {marks list after : List ℕ} {a : Listed} → Walked s p f l r marks → l .used ≤ r .row
-      → Out (distinct (map (markId (l .ids)) (take (r .marked) marks))) list a after → Out (idsOf (on s p f) (table l)) list a after
-  unfolding table idsOf
-  walked-all {r} {marks} {list} {after} {a} w h o =
-      let e : r .row ≡ l .used = omega (arith, w .upto) in
-      let g : Gathered s p f l (l .used) (r .marked) marks = subst (λ (k : ℕ). Gathered s p f l k (r .marked) marks) e (w .gathered) in
-      subst (λ (found : List ℕ). Out found list a after) (ap distinct (g .ids-are)) o
+      module _ {marks : List ℕ} (w : Walked s p f l counts places r marks) where
+        pub walked-below : l .used ≤ length (l .ids) → (r .marked ≤ length marks) × Indices (length (l .ids)) (r .marked) marks
+        walked-below h = (omega (arith, w .inside), λ j k. omega (arith, w .gathered .below j k, w .upto, w .ended .upto))
 
--- ---- whether a row counts, by its container and by itself
-
-module _ (s : GridSearch) (p : Asked) (f : Filter) (row : Row) where
-  pub row-far : containerNear s p (keyIn row) ≡ false → isOn s p f row ≡ false
-  unfolding isOn
-  row-far e = rw e
-
-  pub row-near : containerNear s p (keyIn row) ≡ true → (at : Position) (r : Bool) → at ≡ row .at → r ≡ (pointNear s p (coords (s .ndim) at) && passes f (coords (s .ndim) at)) → r ≡ isOn s p f row
-  unfolding isOn
-  row-near e at r same g = rw e (g ∙ ap (λ (x : Position). pointNear s p (coords (s .ndim) x) && passes f (coords (s .ndim) x)) same)
+        -- where the last row was reached, the ids of the marks are those of the listing
+        pub walked-all : {list after : List ℕ} {o : Listed} → l .used ≤ r .row
+            → Out (distinct (map (markId (l .ids)) (take (r .marked) marks))) list o after → Out (idsOf (on s p f) (table l)) list o after
+        unfolding table idsOf
+        walked-all {list} {after} {o} h out =
+            let e : r .row ≡ l .used = omega (arith, w .upto, w .ended .upto) in
+            let g : Gathered s p f l (l .used) (r .marked) marks = subst (λ (k : ℕ). Gathered s p f l k (r .marked) marks) e (w .gathered) in
+            subst (λ (found : List ℕ). Out found list o after) (ap distinct (g .ids-are)) out
 
 -- ---- the two ways out
 

@@ -6,10 +6,13 @@ mod walk;
 ghost use Rattle.basics.specs.Refusals.{fault, code};
 ghost use Rattle.geometry.specs.Position.{dimension};
 ghost use Rattle.table.specs.Library.{library};
+ghost use Rattle.rows.specs.Damage.{libraryTests};
 ghost use Rattle.listing.specs.Place.{line, circle, cylinder, plane, askedOf, asked, placeTests};
 ghost use Rattle.listing.specs.Listing.{listing, Lists};
+ghost use Rattle.listing.specs.Posts.{Counted};
 ghost use mathlib.Core.Path.{_≡_};
 ghost use mathlib.Core.Bool.{true};
+ghost use mathlib.Core.Option.{none};
 ghost use lib.Dec.{ltb};
 use geometry::Position;
 use grid_search::GridSearch;
@@ -60,6 +63,94 @@ fn place_fault(sheet: GridSearch, used: usize, place: Place, filter: Filter) -> 
     0
 }
 
+// The listing of `search_on`, past the check of the library. `counts` has at its front how many rows each container has, in
+// their order, in `places` places; 0 places where that is not at hand, and then it is not read.
+pub fn search_checked_on(
+    sheet: GridSearch,
+    keys: &[u64],
+    ids: &[u64],
+    xs: &[f64],
+    ys: &[f64],
+    zs: &[f64],
+    used: usize,
+    counts: &[u64],
+    places: usize,
+    place: Place,
+    filter: Filter,
+    list: &mut [u64],
+) -> Listed
+    requires { ⌜ fault (libraryTests sheet (library (now keys) (now ids) (now xs) (now ys) (now zs) used)) ≡ none ⌝ ∗ ⌜ Counted (now keys) used (now counts) places ⌝ }
+    ensures { λ r. ⌜ Lists (listing sheet (library (now (keys .entry)) (now (ids .entry)) (now (xs .entry)) (now (ys .entry)) (now (zs .entry)) used)
+        (asked (sheet .ndim) place) filter (now (list .entry))) r (now (list .exit)) ⌝ }
+{
+    let fault = place_fault(sheet, used, place, filter);
+    if fault != 0 {
+        return Listed::Refused(fault);
+    }
+    walk::list_on(
+        sheet,
+        keys,
+        ids,
+        xs,
+        ys,
+        zs,
+        used,
+        counts,
+        places,
+        place,
+        filter,
+        list,
+    )
+}
+
+// The listing of `search_on_place`, past the check of the library, with `counts` as in `search_checked_on`.
+pub fn search_checked_on_place(
+    sheet: GridSearch,
+    keys: &[u64],
+    ids: &[u64],
+    xs: &[f64],
+    ys: &[f64],
+    zs: &[f64],
+    used: usize,
+    counts: &[u64],
+    places: usize,
+    place: u64,
+    a: &[f64],
+    b: &[f64],
+    number: f64,
+    filter: Filter,
+    list: &mut [u64],
+) -> Listed
+    requires { ⌜ fault (libraryTests sheet (library (now keys) (now ids) (now xs) (now ys) (now zs) used)) ≡ none ⌝ ∗ ⌜ Counted (now keys) used (now counts) places ⌝ }
+    ensures { λ r. ⌜ Lists (listing sheet (library (now (keys .entry)) (now (ids .entry)) (now (xs .entry)) (now (ys .entry)) (now (zs .entry)) used)
+        (askedOf place (now (a .entry)) (now (b .entry)) number) filter (now (list .entry))) r (now (list .exit)) ⌝ }
+{
+    let ndim = sheet.ndim;
+    let on = asked::made(place, a, b, number);
+    let right = !asked::has_wrong_length(ndim, place, a, b);
+    if (place <= 5) & right {
+        return search_checked_on(
+            sheet,
+            keys,
+            ids,
+            xs,
+            ys,
+            zs,
+            used,
+            counts,
+            places,
+            on,
+            filter,
+            list,
+        );
+    }
+    let unfit = asked::is_unfit(ndim, on) | asked::is_unfit_filter(ndim, filter);
+    if (5 < place) | unfit {
+        return Listed::Refused(16);
+    }
+    Listed::Refused(2)
+}
+
 // Lists the marks on a place that the filter keeps: their ids, ascending and once each, stand at the front of the list, and
 // the answer is how many they are. The list beyond them stays. A mark is on the place where one of its rows counts: the
 // centre of the row's container is within container radius + `tol_dist` of the place, and the row's point within `tol_dist`.
@@ -86,11 +177,20 @@ pub fn search_on(
     if damage != 0 {
         return Listed::Refused(damage);
     }
-    let fault = place_fault(sheet, used, place, filter);
-    if fault != 0 {
-        return Listed::Refused(fault);
-    }
-    walk::list_on(sheet, keys, ids, xs, ys, zs, used, place, filter, list)
+    search_checked_on(
+        sheet,
+        keys,
+        ids,
+        xs,
+        ys,
+        zs,
+        used,
+        keys,
+        0,
+        place,
+        filter,
+        list,
+    )
 }
 
 // The listing of a place that is given by a number and slices, as `search_on` gives it, with 2 (a position's length is not
@@ -115,21 +215,27 @@ pub fn search_on_place(
     ensures { λ r. ⌜ Lists (listing sheet (library (now (keys .entry)) (now (ids .entry)) (now (xs .entry)) (now (ys .entry)) (now (zs .entry)) used)
         (askedOf place (now (a .entry)) (now (b .entry)) number) filter (now (list .entry))) r (now (list .exit)) ⌝ }
 {
-    let ndim = sheet.ndim;
-    let on = asked::made(place, a, b, number);
-    let right = !asked::has_wrong_length(ndim, place, a, b);
-    if geometry::is_dimension(ndim) & ((place <= 5) & right) {
-        return search_on(sheet, keys, ids, xs, ys, zs, used, on, filter, list);
-    }
     let damage = rows::library_fault(sheet, keys, ids, xs, ys, zs, used);
     if damage != 0 {
         return Listed::Refused(damage);
     }
-    let unfit = asked::is_unfit(ndim, on) | asked::is_unfit_filter(ndim, filter);
-    if (5 < place) | unfit {
-        return Listed::Refused(16);
-    }
-    Listed::Refused(2)
+    search_checked_on_place(
+        sheet,
+        keys,
+        ids,
+        xs,
+        ys,
+        zs,
+        used,
+        keys,
+        0,
+        place,
+        a,
+        b,
+        number,
+        filter,
+        list,
+    )
 }
 
 // Lists the marks on the line through a and b, as `search_on` lists those on a place. Refused with the first of 24, 13, 16

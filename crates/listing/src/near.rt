@@ -3,12 +3,13 @@ ghost use Prim.Native.Nat.{_<_};
 ghost use mathlib.Core.Path.{_≡_};
 ghost use mathlib.Core.Bool.{true, false, _&&_};
 ghost use mathlib.Core.Logic.{_⊎_};
-ghost use lib.Ieee.{inf, neg};
+ghost use lib.Ieee.{Float, inf, neg, le};
 ghost use Rattle.floats.specs.Rounded.{_⊕_};
+ghost use Rattle.floats.specs.Tests.{within};
 ghost use Rattle.geometry.specs.Position.{coords, dimension};
 ghost use Rattle.grid.specs.Divisions.{counts};
 ghost use Rattle.grid.specs.Containers.{containers};
-ghost use Rattle.listing.specs.Place.{asked, unfit, unfitFilter, placeDistance, passes, containerNear, pointNear};
+ghost use Rattle.listing.specs.Place.{asked, unfit, unfitFilter, placeDistance, passes, containerNear, pointNear, centreOf};
 ghost use Rattle.windows.specs.Window.{lies};
 ghost use Rattle.rows.specs.Posts.{Divided};
 ghost use Rattle.listing.specs.Ready.{Lined, Windowed, Made};
@@ -153,18 +154,56 @@ pub(crate) fn keeps(ndim: usize, filter: Filter, x: Position) -> bool
     }
 }
 
-// Whether a container's centre is within container radius + tol_dist of the place, by the signed distance.
+// The magnitude, for a comparison: a zero may keep its sign. With one test the compiler makes no branch of it.
+fn magnitude(x: f64) -> f64
+    ensures { λ r. ⌜ ((t : Float) → le r t ≡ within t x) ⌝ }
+{
+    if x < 0.0 { -x } else { x }
+}
+
+// The centre of a container.
+fn center_of(sheet: GridSearch, key: ContainerKey) -> Position
+    requires { ⌜ Divided sheet ⌝ ∗ ⌜ key .0 < containers (counts (sheet .ndim) (sheet .ndiv)) ⌝ }
+    ensures { λ r. ⌜ coords (sheet .ndim) r ≡ centreOf sheet (key .0) ⌝ }
+{
+    grid::container_center(sheet.ndim, sheet.side_length, sheet.ndiv, sheet.xmin, key)
+}
+
+// Whether a container's centre is within container radius + tol_dist of the place, by the signed distance. The place is told apart
+// before the centre is worked out: a plane takes one coordinate of it, and the compiler leaves the others out. Of that one the
+// magnitude is compared, since no branch on its side of the plane could be foreseen.
 pub(crate) fn container_near(sheet: GridSearch, r: Ready, key: ContainerKey) -> bool
     requires { ⌜ Divided sheet ⌝ ∗ ⌜ unfit (sheet .ndim) (asked (sheet .ndim) (r .place)) ≡ false ⌝ ∗ ⌜ key .0 < containers (counts (sheet .ndim) (sheet .ndiv)) ⌝ }
     requires { ⌜ Made (sheet .ndim) (sheet .radius ⊕ sheet .«tol_dist») (sheet .«tol_dist») r ⌝ }
     ensures { λ v. ⌜ v ≡ containerNear sheet (asked (sheet .ndim) (r .place)) (key .0) ⌝ }
 {
     let ndim = sheet.ndim;
-    let center = grid::container_center(ndim, sheet.side_length, sheet.ndiv, sheet.xmin, key);
     let place = r.place;
     let line = r.line;
     let w = r.center;
-    point_lies(ndim, place, line, w, center)
+    match place {
+        Place::Line(_, _) => {
+            w.holds(
+                Distance::Root,
+                geometry::line_square(ndim, line, center_of(sheet, key)),
+            )
+        }
+        Place::Circle(center, radius) => {
+            w.holds(
+                Distance::RootLess(radius),
+                geometry::point_square(ndim, center, center_of(sheet, key)),
+            )
+        }
+        Place::Cylinder(_, _, radius) => {
+            w.holds(
+                Distance::RootLess(radius),
+                geometry::line_square(ndim, line, center_of(sheet, key)),
+            )
+        }
+        Place::PlaneXY(z) => magnitude(center_of(sheet, key).z - z) <= w.to,
+        Place::PlaneYZ(x) => magnitude(center_of(sheet, key).x - x) <= w.to,
+        Place::PlaneXZ(y) => magnitude(center_of(sheet, key).y - y) <= w.to,
+    }
 }
 
 // Whether a point is within tol_dist of the place, by the magnitude of its distance, and kept by the filter.

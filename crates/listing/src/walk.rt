@@ -1,5 +1,5 @@
-// The walk over the rows: the rows that count are gathered as indices, one is selected for each id, and the ids are
-// written. Indices stand in 2 KiB of the stack; only where more than 1,024 rows count, in 128 KiB.
+// The walk over the rows, from container to container: the rows that count are gathered as indices, one is selected for each
+// id, and the ids are written. Indices stand in 2 KiB of the stack; only where more than 1,024 rows count, in 128 KiB.
 ghost use Prim.Native.Nat.{_+_, _≤_, _<_};
 ghost use mathlib.Core.Path.{_≡_};
 ghost use mathlib.Core.Bool.{true, false, cond};
@@ -7,7 +7,7 @@ ghost use mathlib.Core.List.{map};
 ghost use lib.ListN.{length, getD, take};
 ghost use Rattle.basics.specs.Lists.{over};
 ghost use Rattle.geometry.specs.Position.{dimension};
-ghost use Rattle.grid.specs.Divisions.{counts};
+ghost use Rattle.grid.specs.Divisions.{counts as divisions};
 ghost use Rattle.grid.specs.Containers.{containers};
 ghost use Rattle.table.specs.Library.{library, rowAt, table};
 ghost use Rattle.table.specs.Posts.{Room, lists};
@@ -18,7 +18,7 @@ ghost use Rattle.listing.specs.Place.{asked, unfit, unfitFilter, isOn, c
 ghost use Rattle.floats.specs.Rounded.{_⊕_};
 ghost use Rattle.listing.specs.Ready.{Made};
 ghost use Rattle.listing.specs.Listing.{idsOf};
-ghost use Rattle.listing.specs.Posts.{Known, Remembered, Walked, Out};
+ghost use Rattle.listing.specs.Posts.{endFrom, CountedFrom, Counted, Ended, Known, AllNear, Stretched, Walked, Out};
 use crate::Filter;
 use crate::Listed;
 use crate::Place;
@@ -27,22 +27,23 @@ use crate::near::Ready;
 use grid::ContainerKey;
 use grid_search::GridSearch;
 
-// Whether row i's container is near. Rows of a container stand side by side, so that one centre is measured for each
-// container.
-fn near_now(sheet: GridSearch, keys: &[u64], r: Ready, i: usize, near: bool) -> bool
-    requires { ⌜ Divided sheet ⌝ ∗ ⌜ unfit (sheet .ndim) (asked (sheet .ndim) (r .place)) ≡ false ⌝ ∗ ⌜ Remembered sheet (r .place) (now keys) i near ⌝ }
-    requires { ⌜ (i < length (now keys)) × (getD (now keys) i 0 < containers (counts (sheet .ndim) (sheet .ndiv))) ⌝ }
-    requires { ⌜ Made (sheet .ndim) (sheet .radius ⊕ sheet .«tol_dist») (sheet .«tol_dist») r ⌝ }
-    ensures { λ v. ⌜ v ≡ containerNear sheet (asked (sheet .ndim) (r .place)) (getD (now (keys .entry)) i 0) ⌝ }
+// Where the rows of the container end whose first row is `first`: by its count, where the containers' counts are at hand, and
+// else by the keys.
+fn container_end(
+    keys: &[u64],
+    used: usize,
+    counts: &[u64],
+    places: usize,
+    place: usize,
+    first: usize,
+) -> usize
+    requires { ⌜ (first < used) × (used ≤ length (now keys)) ⌝ ∗ ⌜ CountedFrom (now keys) used (now counts) places place first ⌝ }
+    ensures { λ r. ⌜ r ≡ endFrom (now (keys .entry)) used first ⌝ }
 {
-    let key = keys[i];
-    if i == 0 {
-        return near::container_near(sheet, r, ContainerKey(key));
+    if place < places {
+        return first + counts[place] as usize;
     }
-    if keys[i - 1] == key {
-        return near;
-    }
-    near::container_near(sheet, r, ContainerKey(key))
+    table::end_of(keys, used, first)
 }
 
 // Whether row i counts, where its container is near.
@@ -74,17 +75,60 @@ fn advanced(n: usize, more: bool) -> usize
     if more { n + 1 } else { n }
 }
 
-// How far a walk over the rows came: the row that it looks at next, how many of those before count, and whether the container
-// of the last one is near.
+// Whether a row's container is near, where its rows end, and how many containers stand before that end.
+pub(crate) struct Stretch {
+    pub(crate) near: bool,
+    pub(crate) end: usize,
+    pub(crate) place: usize,
+}
+
+// The stretch of a row: up to `end`, where the row is before it, and else that of the container which begins there, whose centre
+// is measured once.
+fn stretch_of(
+    sheet: GridSearch,
+    keys: &[u64],
+    used: usize,
+    counts: &[u64],
+    places: usize,
+    r: Ready,
+    row: usize,
+    end: usize,
+    place: usize,
+) -> Stretch
+    requires { ⌜ Divided sheet ⌝ ∗ ⌜ unfit (sheet .ndim) (asked (sheet .ndim) (r .place)) ≡ false ⌝ ∗ ⌜ (used ≤ length (now keys)) × (used ≤ 65536) ⌝ }
+    requires { ⌜ (row < used) × (getD (now keys) row 0 < containers (divisions (sheet .ndim) (sheet .ndiv))) ⌝ }
+    requires { ⌜ Made (sheet .ndim) (sheet .radius ⊕ sheet .«tol_dist») (sheet .«tol_dist») r ⌝ }
+    requires { ⌜ Ended (now keys) used (now counts) places end place ⌝ ∗ ⌜ row ≤ end ⌝ ∗ ⌜ AllNear sheet (r .place) (now keys) row end true ⌝ }
+    ensures { λ s. ⌜ Stretched sheet (r .place) (now (keys .entry)) used (now (counts .entry)) places row s ⌝ }
+{
+    if row < end {
+        return Stretch {
+            near: true,
+            end,
+            place,
+        };
+    }
+    let next = container_end(keys, used, counts, places, place, row);
+    let key = ContainerKey(keys[row]);
+    Stretch {
+        near: near::container_near(sheet, r, key),
+        end: next,
+        place: place + 1,
+    }
+}
+
+// How far a walk over the rows came: the row that it looks at next, where the stretch ends that it is in, which is near, and how
+// many containers stand before that end, and how many of the rows before count.
 pub(crate) struct Reached {
     pub(crate) row: usize,
+    pub(crate) end: usize,
+    pub(crate) place: usize,
     pub(crate) marked: usize,
-    pub(crate) near: bool,
 }
 
 // Goes on over the rows, and puts those that count behind the marked ones: up to the last row, or to one that counts when a
-// single place is left. Each row of a near container is written there, and stays where it counts, so that no branch depends
-// on that.
+// single place is left. A far container is passed at once. Each row of a near one is written there, and stays where it counts,
+// so that no branch depends on that.
 fn gather(
     sheet: GridSearch,
     keys: &[u64],
@@ -93,6 +137,8 @@ fn gather(
     ys: &[f64],
     zs: &[f64],
     used: usize,
+    counts: &[u64],
+    places: usize,
     filter: Filter,
     r: Ready,
     from: Reached,
@@ -100,38 +146,41 @@ fn gather(
 ) -> Reached
     requires { ⌜ Known sheet (library (now keys) (now ids) (now xs) (now ys) (now zs) used) (r .place) filter ⌝ }
     requires { ⌜ Made (sheet .ndim) (sheet .radius ⊕ sheet .«tol_dist») (sheet .«tol_dist») r ⌝ }
-    requires { ⌜ Walked sheet (r .place) filter (library (now keys) (now ids) (now xs) (now ys) (now zs) used) from (now marks) ⌝ }
-    ensures { λ to. ⌜ Walked sheet (r .place) filter (library (now (keys .entry)) (now (ids .entry)) (now (xs .entry)) (now (ys .entry)) (now (zs .entry)) used) to (now (marks .exit)) ⌝ }
+    requires { ⌜ Walked sheet (r .place) filter (library (now keys) (now ids) (now xs) (now ys) (now zs) used) (now counts) places from (now marks) ⌝ }
+    ensures { λ to. ⌜ Walked sheet (r .place) filter (library (now (keys .entry)) (now (ids .entry)) (now (xs .entry)) (now (ys .entry)) (now (zs .entry)) used) (now (counts .entry)) places to (now (marks .exit)) ⌝ }
     ensures { λ to. ⌜ (to .row < used → length (now (marks .exit)) ≡ to .marked + 1) ⌝ }
 {
     let mut n = from.marked;
-    let mut near = from.near;
-    let mut i = from.row;
-    while i < used {
-        let now = near_now(sheet, keys, r, i, near);
-        if !now {
-            near = now;
-            i += 1;
+    let mut place = from.place;
+    let mut end = from.end;
+    let mut row = from.row;
+    while row < used {
+        let s = stretch_of(sheet, keys, used, counts, places, r, row, end, place);
+        place = s.place;
+        end = s.end;
+        if !s.near {
+            row = s.end;
             continue;
         }
-        let counts = row_counts(sheet, keys, ids, xs, ys, zs, filter, r, i);
-        marks[n] = i as u16;
-        let more = advanced(n, counts);
+        let on = row_counts(sheet, keys, ids, xs, ys, zs, filter, r, row);
+        marks[n] = row as u16;
+        let more = advanced(n, on);
         if more == marks.len() {
             return Reached {
-                row: i,
+                row,
+                end,
+                place,
                 marked: n,
-                near,
             };
         }
         n = more;
-        near = now;
-        i += 1;
+        row += 1;
     }
     Reached {
-        row: i,
+        row,
+        end,
+        place,
         marked: n,
-        near,
     }
 }
 
@@ -190,6 +239,8 @@ fn list_many(
     ys: &[f64],
     zs: &[f64],
     used: usize,
+    counts: &[u64],
+    places: usize,
     filter: Filter,
     r: Ready,
     from: Reached,
@@ -198,7 +249,7 @@ fn list_many(
 ) -> Listed
     requires { ⌜ Known sheet (library (now keys) (now ids) (now xs) (now ys) (now zs) used) (r .place) filter ⌝ }
     requires { ⌜ Made (sheet .ndim) (sheet .radius ⊕ sheet .«tol_dist») (sheet .«tol_dist») r ⌝ }
-    requires { ⌜ Walked sheet (r .place) filter (library (now keys) (now ids) (now xs) (now ys) (now zs) used) from (now few) ⌝ }
+    requires { ⌜ Walked sheet (r .place) filter (library (now keys) (now ids) (now xs) (now ys) (now zs) used) (now counts) places from (now few) ⌝ }
     ensures { λ a. ⌜ Out (idsOf (isOn sheet (asked (sheet .ndim) (r .place)) filter) (table (library (now (keys .entry)) (now (ids .entry)) (now (xs .entry)) (now (ys .entry)) (now (zs .entry)) used))) (now (list .entry)) a (now (list .exit)) ⌝ }
 {
     let mut marks = [0u16; 65537];
@@ -211,6 +262,8 @@ fn list_many(
         ys,
         zs,
         used,
+        counts,
+        places,
         filter,
         r,
         from,
@@ -225,6 +278,8 @@ fn list_many(
             ys,
             zs,
             used,
+            counts,
+            places,
             filter,
             r,
             to,
@@ -244,18 +299,21 @@ pub(crate) fn list_on(
     ys: &[f64],
     zs: &[f64],
     used: usize,
+    counts: &[u64],
+    places: usize,
     place: Place,
     filter: Filter,
     list: &mut [u64],
 ) -> Listed
-    requires { ⌜ Known sheet (library (now keys) (now ids) (now xs) (now ys) (now zs) used) place filter ⌝ }
+    requires { ⌜ Known sheet (library (now keys) (now ids) (now xs) (now ys) (now zs) used) place filter ⌝ ∗ ⌜ Counted (now keys) used (now counts) places ⌝ }
     ensures { λ r. ⌜ Out (idsOf (isOn sheet (asked (sheet .ndim) place) filter) (table (library (now (keys .entry)) (now (ids .entry)) (now (xs .entry)) (now (ys .entry)) (now (zs .entry)) used))) (now (list .entry)) r (now (list .exit)) ⌝ }
 {
     let r = near::made_ready(sheet, place);
     let start = Reached {
         row: 0,
+        end: 0,
+        place: 0,
         marked: 0,
-        near: false,
     };
     let mut few = [0u16; 1025];
     let to = gather(
@@ -266,6 +324,8 @@ pub(crate) fn list_on(
         ys,
         zs,
         used,
+        counts,
+        places,
         filter,
         r,
         start,
@@ -280,6 +340,8 @@ pub(crate) fn list_on(
             ys,
             zs,
             used,
+            counts,
+            places,
             filter,
             r,
             to,

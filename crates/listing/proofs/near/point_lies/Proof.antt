@@ -1,14 +1,10 @@
 -- `listing::near::point_lies` meets its contract. Assumes nothing.
 use native.Mathlib.Omega.{arith}
-use mathlib.Core.Path.{_≡_, ap, _∙_}
+use mathlib.Core.Path.{ap, _∙_}
 use borrow.Author.Needs.{needs}
-use Rattle.floats.specs.Sqrt.{sqrtOf}
-use Rattle.geometry.specs.Position.{coords}
-use Rattle.geometry.specs.Distances.{pointPoint, pointLine, pointCircle, pointCylinder}
-use Rattle.windows.specs.declared.Distance.the-variants.{Root, RootLess}
-use Rattle.windows.specs.Window.{toldBy, lies}
-use Rattle.listing.specs.Place.{asked, placeDistance}
-use Rattle.listing.proofs.Places.{plane-lies}
+use Rattle.windows.specs.Window.{lies}
+use Rattle.listing.specs.Place.{asked}
+use Rattle.listing.proofs.Places.{line-told, circle-told, cylinder-told, plane-lies}
 use Rattle.listing.proofs.near.point_lies.Statement.{statement}
 use Rattle.listing.proofs.near.point_lies.Tie as tie
 
@@ -22,31 +18,24 @@ holds-requires-3 : tie.Need-holds-requires-3
 holds-requires-3 c κs = rw (c .before .before .place2 .given .1) at (c .before .before .before .before .pre .1 .1 .1)
 
 returns : tie.Need-returns
-unfolding asked placeDistance toldBy pointLine
 returns c =
     let a = c .before .before .before .before in
     let t = c .before .before .enum-told .given .1 in
-    let d : toldBy Root (c .before .line-square .result) ≡ placeDistance (asked (a .args .ndim) (a .args .place)) (coords (a .args .ndim) (a .args .x)) =
-    rw t (ap sqrtOf (c .before .line-square .ensures _ _ (rw t at (a .pre .1 .1 .0)))) in
-    c .holds .ensures ∙ ap (lies (a .args .w .from) (a .args .w .to)) d
+    c .holds .ensures
+    ∙ ap (lies (a .args .w .from) (a .args .w .to)) (rw t (line-told (a .args .ndim) _ _ (a .args .x) (c .before .line-square .ensures _ _ (rw t at (a .pre .1 .1 .0)))))
 
 returns-2 : tie.Need-returns-2
-unfolding asked placeDistance toldBy pointCircle pointPoint
 returns-2 c =
     let a = c .before .before .before .before .before in
     let t = c .before .before .before .place .given in
-    let d : toldBy (RootLess (t .0 .1 .0)) (c .before .point-square .result) ≡ placeDistance (asked (a .args .ndim) (a .args .place)) (coords (a .args .ndim) (a .args .x)) =
-    rw (t .1, c .before .point-square .ensures) in
-    c .holds2 .ensures ∙ ap (lies (a .args .w .from) (a .args .w .to)) d
+    c .holds2 .ensures ∙ ap (lies (a .args .w .from) (a .args .w .to)) (rw (t .1) (circle-told (a .args .ndim) _ (a .args .x) _ (c .before .point-square .ensures)))
 
 returns-3 : tie.Need-returns-3
-unfolding asked placeDistance toldBy pointCylinder pointLine
 returns-3 c =
     let a = c .before .before .before .before .before in
     let t = c .before .before .before .place2 .given in
-    let d : toldBy (RootLess (t .0 .1 .1 .0)) (c .before .line-square2 .result) ≡ placeDistance (asked (a .args .ndim) (a .args .place)) (coords (a .args .ndim) (a .args .x)) =
-    rw (t .1, c .before .line-square2 .ensures _ _ (rw (t .1) at (a .pre .1 .1 .0))) in
-    c .holds3 .ensures ∙ ap (lies (a .args .w .from) (a .args .w .to)) d
+    c .holds3 .ensures
+    ∙ ap (lies (a .args .w .from) (a .args .w .to)) (rw (t .1) (cylinder-told (a .args .ndim) _ _ (a .args .x) _ (c .before .line-square2 .ensures _ _ (rw (t .1) at (a .pre .1 .1 .0)))))
 
 returns-4 : tie.Need-returns-4
 unfolding asked

@@ -1,89 +1,90 @@
 -- `listing::walk::gather` meets its contract. Assumes nothing.
 use Prim.Native.Nat.{_-_}
 use native.Mathlib.Omega.{arith}
-use mathlib.Core.Path.{_≡_, refl, sym, _∙_}
+use mathlib.Core.Path.{_≡_, refl, _∙_}
 use lib.ListN.{length, length-set}
 use borrow.Author.Needs.{needs}
 use borrow.Author.Tests.{not-true, not-false}
 use Rattle.table.specs.Library.{library}
-use Rattle.listing.specs.Place.{asked}
 use Rattle.listing.specs.Posts.{Walked}
-use Rattle.listing.proofs.Walks.{row-far, walked-passed, walked-next, walked-back, last-place}
+use Rattle.listing.proofs.Walks.{walked-far, walked-next, walked-back, last-place}
 use Rattle.listing.proofs.walk.gather.Statement.{statement}
 use Rattle.listing.proofs.walk.gather.Tie as tie
 
 abbrev Inv-loop : tie.InvT-loop
-Inv-loop sheet keys ids xs ys zs used filter r marks₀ n₀ near₀ i₀ marks n near i =
-    (length marks ≡ length marks₀) × Walked sheet (r .place) filter (library keys ids xs ys zs used) (record { row = i; marked = n; near = near }) marks
+Inv-loop sheet keys ids xs ys zs used counts places filter r marks₀ n₀ place₀ end₀ row₀ marks n place end row =
+    (length marks ≡ length marks₀)
+    × Walked sheet (r .place) filter (library keys ids xs ys zs used) counts places (record { row = row; end = end; place = place; marked = n }) marks
 
 abbrev μ-loop : tie.MeasureT-loop
-μ-loop sheet keys ids xs ys zs used filter r marks₀ n₀ near₀ i₀ marks n near i = used - i
+μ-loop sheet keys ids xs ys zs used counts places filter r marks₀ n₀ place₀ end₀ row₀ marks n place end row = used - row
 
 loop-holds : tie.Need-loop-holds Inv-loop μ-loop
-loop-holds c = (refl, c .before .before .before .before .before .before .pre .1 .1)
+loop-holds c = (refl, c .before .before .before .before .before .before .before .pre .1 .1)
 
-near-now-requires : tie.Need-near-now-requires Inv-loop μ-loop
-near-now-requires c κs =
-    let k = c .before .before .before .before .before .before .before .before .pre .0 in
-    let i = c .before .loop .i in
-    (k .checked .sheet, (k .fit, (c .before .loop .inv .1 .remembered, ((omega (arith, c .loop-test .taken, k .checked .room .0), k .keys-below i (c .loop-test .taken)), c .before .before .before .before .before .before .before .before .pre .1 .0))))
-
-add-i : tie.Need-add-i Inv-loop μ-loop
-add-i c = omega (arith, c .before .before .loop-test .taken, c .before .before .before .before .before .before .before .before .before .before .pre .0 .small)
+stretch-of-requires : tie.Need-stretch-of-requires Inv-loop μ-loop
+stretch-of-requires c κs =
+    let p = c .before .before .before .before .before .before .before .before .before .pre in
+    let k = p .0 in
+    let w = c .before .loop .inv .1 in
+    let t = c .loop-test .taken in
+    (k .checked .sheet, (k .fit, ((k .checked .room .0, k .small), ((t, k .keys-below (c .before .loop .row) t), (p .1 .0, (w .ended, (w .upto, w .near)))))))
 
 loop-less : tie.Need-loop-less Inv-loop μ-loop
-loop-less c = omega (arith, c .before .before .loop-test .taken)
+loop-less c = omega (arith, c .before .before .stretch-of .ensures .past, c .before .before .before .loop-test .taken)
 
 loop-again : tie.Need-loop-again Inv-loop μ-loop
-loop-again c =
-    let a = c .before .before .before .before .before .before .before .before .before .before in
-    let w = c .before .before .before .loop in
-    let far = row-far (a .args .sheet) (asked (a .args .sheet .ndim) (a .args .r .place)) (a .args .filter) _ (sym (c .before .near-now .ensures) ∙ not-true _ (c .if1 .taken)) in
-    (w .inv .0, walked-passed (c .before .near-now .result) (w .inv .1) (c .before .before .loop-test .taken) (c .before .near-now .ensures) far)
+loop-again c = let i = c .before .before .before .before .loop .inv in (i .0, walked-far (i .1) (c .before .before .stretch-of .ensures) (not-true _ (c .if1 .taken)))
 
 row-counts-requires : tie.Need-row-counts-requires Inv-loop μ-loop
 row-counts-requires c κs =
-    let k = c .before .before .before .before .before .before .before .before .before .before .pre .0 in
-    let near = sym (c .before .near-now .ensures) ∙ not-false _ (c .if1 .left) in
-    (k .checked .sheet .axes, (k .fit, (k .fit-filter, (omega (arith, c .before .before .loop-test .taken, k .checked .room), (near, c .before .before .before .before .before .before .before .before .before .before .pre .1 .0)))))
+    let c4 = c .before .before .before .before in
+    let p = c4 .before .before .before .before .before .before .before .before .pre in
+    let k = p .0 in
+    let s = c .before .before .stretch-of .ensures in
+    let near = s .alike (c4 .loop .row) (omega arith) (s .past) ∙ not-false _ (c .if1 .left) in
+    (k .checked .sheet .axes, (k .fit, (k .fit-filter, (omega (arith, c .before .before .before .loop-test .taken, k .checked .room), (near, p .1 .0)))))
 
 cast-marks : tie.Need-cast-marks Inv-loop μ-loop
-cast-marks c = omega (arith, c .before .before .before .loop-test .taken, c .before .before .before .before .before .before .before .before .before .before .before .pre .0 .small)
+cast-marks c = omega (arith, c .before .before .before .before .loop-test .taken, c .before .before .before .before .before .before .before .before .before .before .before .before .before .pre .0 .small)
 
 mul-marks : tie.Need-mul-marks Inv-loop μ-loop
-mul-marks c = omega (arith, c .before .before .before .before .loop .inv .1 .inside, c .before .before .before .before .loop .inv .0)
+mul-marks c = let i = c .before .before .before .before .before .loop .inv in omega (arith, i .1 .inside, i .0)
 
 slice-write-marks : tie.Need-slice-write-marks Inv-loop μ-loop
-slice-write-marks c = c .before .before .before .before .loop .inv .1 .inside
+slice-write-marks c = c .before .before .before .before .before .loop .inv .1 .inside
 
 advanced-requires : tie.Need-advanced-requires Inv-loop μ-loop
 advanced-requires c κs =
     let c4 = c .before .before .before .before in
-    let c11 = c4 .before .before .before .before .before .before .before in
-    omega (arith, c4 .loop .inv .1 .gathered .upto, c4 .loop .inv .1 .upto, c11 .pre .0 .small)
+    omega (arith, c4 .before .loop .inv .1 .gathered .upto, c4 .loop-test .taken, c .before .before .before .before .before .before .before .before .before .before .before .before .before .pre .0 .small)
 
 returns : tie.Need-returns Inv-loop μ-loop
 returns c =
-    let a = c .before .before .before .before .before .before .before .before .before .before .before .before .before in
-    let w = c .before .before .before .before .before .before .loop in
-    (walked-back (w .inv .1), λ h. last-place (c .before .before .row-counts .result) (w .n) (c .before .advanced .result) _ (c .before .advanced .ensures) (omega (arith, length-set (w .marks) (w .n) (w .i), w .inv .1 .inside)) (c .if2 .taken))
+    let c3 = c .before .before .before in
+    let c7 = c3 .before .before .before .before in
+    let w = c7 .loop in (
+      walked-back (w .inv .1) (c3 .before .before .stretch-of .ensures) (not-false _ (c3 .if1 .left)),
+      λ h. last-place (c .before .before .row-counts .result) (w .n) (c .before .advanced .result) _ (c .before .advanced .ensures)
+          (omega (arith, length-set (w .marks) (w .n) (w .row), w .inv .1 .inside)) (c .if2 .taken),
+    )
 
-add-i-2 : tie.Need-add-i-2 Inv-loop μ-loop
-add-i-2 c = omega (arith, c .before .before .before .before .before .loop-test .taken, c .before .before .before .before .before .before .before .before .before .before .before .before .before .pre .0 .small)
+add-row : tie.Need-add-row Inv-loop μ-loop
+add-row c = omega (arith, c .before .before .before .before .before .before .loop-test .taken, c .before .before .before .before .before .before .before .before .before .before .before .before .before .before .before .pre .0 .small)
 
 loop-less-2 : tie.Need-loop-less-2 Inv-loop μ-loop
-loop-less-2 c = omega (arith, c .before .before .before .before .before .loop-test .taken)
+loop-less-2 c = omega (arith, c .before .before .before .before .before .before .loop-test .taken)
 
 loop-again-2 : tie.Need-loop-again-2 Inv-loop μ-loop
 loop-again-2 c =
     let c2 = c .before .before in
-    let c4 = c2 .before .before in
-    let c5 = c4 .before in
-    let c6 = c5 .before in
-    let c13 = c6 .before .before .before .before .before .before .before in
-    let a = c13 in
-    let w = c6 .loop in
-    (length-set (w .marks) (w .n) (w .i) ∙ w .inv .0, walked-next (c4 .near-now .result) (w .inv .1) (c5 .loop-test .taken) (c4 .near-now .ensures) (c2 .row-counts .result) (c .before .advanced .result) (c2 .row-counts .ensures) (c .before .advanced .ensures) (c .if2 .left))
+    let c3 = c2 .before in
+    let c7 = c3 .before .before .before .before in
+    let w = c7 .loop in (
+      length-set (w .marks) (w .n) (w .row) ∙ w .inv .0,
+      walked-next (w .inv .1) (c3 .before .before .stretch-of .ensures) (not-false _ (c3 .if1 .left)) (c2 .row-counts .result) (c .before .advanced .result) (c2 .row-counts .ensures)
+          (c .before .advanced .ensures) (c .if2 .left),
+    )
 
 returns-2 : tie.Need-returns-2 Inv-loop μ-loop
 returns-2 c = (c .before .loop .inv .1, λ h. absurd (omega (arith, c .loop-test .left)))
@@ -95,8 +96,7 @@ gather-spec =
     Inv-loop
     μ-loop
     loop-holds
-    near-now-requires
-    add-i
+    stretch-of-requires
     loop-less
     loop-again
     row-counts-requires
@@ -106,7 +106,7 @@ gather-spec =
     advanced-requires
     (λ c. search needs)
     returns
-    add-i-2
+    add-row
     loop-less-2
     loop-again-2
     (λ c. search needs)

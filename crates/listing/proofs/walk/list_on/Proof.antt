@@ -7,22 +7,22 @@ use Rattle.listing.proofs.walk.list_on.Tie as tie
 
 gather-requires : tie.Need-gather-requires
 gather-requires c κs =
-    let a = c .before .before .before .before .before .before .before .before in
-    (rw (c .before .made-ready .ensures .1) (a .pre), (c .before .made-ready .ensures .0, walked-none _ (omega arith)))
+    let a = c .before .before .before .before .before .before .before .before .before in
+    (rw (c .before .made-ready .ensures .1) (a .pre .0), (c .before .made-ready .ensures .0, walked-none (a .pre .1) _ (omega arith)))
 
 list-many-requires : tie.Need-list-many-requires
 list-many-requires c κs =
-    let a = c .before .before .before .before .before .before .before .before .before .before .before .before .before .before in
-    (rw (c .before .before .before .before .before .before .before .made-ready .ensures .1) (a .pre), (c .before .before .before .before .before .before .before .made-ready .ensures .0, c .before .before .before .before .before .gather .ensures .0))
+    let a = c .before .before .before .before .before .before .before .before .before .before .before .before .before .before .before in
+    (rw (c .before .before .before .before .before .before .before .made-ready .ensures .1) (a .pre .0), (c .before .before .before .before .before .before .before .made-ready .ensures .0, c .before .before .before .before .before .gather .ensures .0))
 
 returns : tie.Need-returns
 returns c = rw (c .before .before .before .before .before .before .before .before .before .before .made-ready .ensures .1) at (c .before .before .list-many .ensures)
 
 list-marked-requires : tie.Need-list-marked-requires
 list-marked-requires c κs =
-    let a = c .before .before .before .before .before .before .before .before .before .before .before .before .before .before in
+    let a = c .before .before .before .before .before .before .before .before .before .before .before .before .before .before .before in
     let w = c .before .before .before .before .before .gather .ensures .0 in
-    walked-below w (a .pre .checked .room .1 .0)
+    walked-below w (a .pre .0 .checked .room .1 .0)
 
 returns-2 : tie.Need-returns-2
 returns-2 c =
