@@ -1,0 +1,3 @@
+-- Laws of listings through a directory.
+pub mod Counts
+pub mod Answers
