@@ -10,7 +10,8 @@ use Rattle.examples.specs.Examples.{Agree, lines, room, others, fourRows
 pub as-stated : Agree lines
 unfolding lines add sub mul div ofInt toUnsigned within room before same chain putRow
 as-stated =
-    let checked : Agree (drop 46 lines) = (refl, (refl, (refl, (refl, (refl, (refl, (refl, (refl, (refl, (refl, tt)))))))))) in
+    let filed : Agree (drop 56 lines) = (refl, (refl, (refl, (refl, (refl, (refl, (refl, (refl, (refl, (refl, (refl, (refl, (refl, (refl, (refl, tt))))))))))))))) in
+    let checked : Agree (drop 46 lines) = (refl, (refl, (refl, (refl, (refl, (refl, (refl, (refl, (refl, (refl, filed)))))))))) in
     let nearer : Agree (drop 37 lines) = (refl, (refl, (refl, (refl, (refl, (refl, (refl, (refl, (refl, checked))))))))) in
     let struck : Agree (drop 23 lines) = (refl, (refl, (refl, (refl, (refl, (refl, (refl, (refl, (refl, (refl, (refl, (refl, (refl, (refl, nearer)))))))))))))) in
     let rest : Agree (drop 12 lines) = (refl, (refl, (refl, (refl, (refl, (refl, (refl, (refl, (refl, (refl, (refl, struck))))))))))) in

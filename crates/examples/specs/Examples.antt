@@ -29,6 +29,9 @@ use Rattle.rows.specs.Check.{Walk, checking}
 use Rattle.rows.specs.Insert.{containerOf, insertion}
 use Rattle.strike.specs.Strike.{striking}
 use Rattle.search.specs.Search.{searchAnswer}
+use Rattle.directory.specs.Entries.{Looked}
+use Rattle.directory.specs.Directory.{Directory, directory}
+use Rattle.directory.specs.Calls.{Filed, filing, Building, building, lookingUp}
 
 -- what a line states: floats, numbers, a test's outcome, or a refusal
 pub data Stated : Type 0 where
@@ -61,6 +64,12 @@ unfoldable pub ofCheck : Answer Walk → Stated
 unfolding Option·elim
 ofCheck (refused n) = refusal n
 ofCheck (success w) = numbers (Option·elim (w .bad) [] (λ (i : ℕ). i ∷ []) ++ w .visited ∷ [])
+
+-- of a look-up: the place found and the places read, or the places read alone
+unfoldable pub ofLookUp : Answer Looked → Stated
+unfolding Option·elim
+ofLookUp (refused n) = refusal n
+ofLookUp (success w) = numbers (Option·elim (w .place) [] (λ (i : ℕ). i ∷ []) ++ w .reads ∷ [])
 
 unfoldable pub ofDistance : Answer Float → Stated
 ofDistance (refused n) = refusal n
@@ -199,6 +208,37 @@ unfoldable pub check : Library → Stated
 unfolding ofCheck checking S
 check l = ofCheck (checking S l)
 
+-- 7 at (2, 1) and 8 at (3 - 9/4096, 0.5): rows of keys 1, 2, 2, 9, 10, with room for so many
+unfoldable pub beside : ℕ → Library
+unfolding eight seven
+beside n = eight (seven n .library) .library
+
+-- a directory of n places with so many in use, whatever stands in it; and the one that is built for these rows in n places
+unfoldable pub places : ℕ → ℕ → Directory
+places n used = directory (replicate n 9) (replicate n 9) (replicate n 9) used
+
+unfoldable pub build : ℕ → Building
+unfolding building S beside places
+build n = building S (beside 8) (places n 3)
+
+-- a key looked up in it
+unfoldable pub look : ℕ → Stated
+unfolding ofLookUp lookingUp S beside build
+look key = ofLookUp (lookingUp S (beside 8) (build 6 .directory) key)
+
+-- through it, or through one that lacks places: 7 at (5.5, 2.5) too; 7 struck off
+unfoldable pub filedMoved : ℕ → Filed ℕ
+unfolding filing insertion S beside build
+filedMoved n = filing S (beside 8) (build n .directory) (insertion S (beside 8) 7 (fiveAndHalf ∷ twoAndHalf ∷ []))
+
+unfoldable pub filedGone : Filed ℕ
+unfolding filing striking S beside build
+filedGone = filing S (beside 8) (build 6 .directory) (striking S (beside 8) 7)
+
+-- a directory's keys, first rows and numbers of rows
+unfoldable pub threeOf : Directory → Stated
+threeOf d = numbers (d .keys ++ d .firsts ++ d .counts)
+
 -- from (2.5, 1.5): the square of the distance, and the distance
 unfoldable pub squareTo : Float → Float → Float
 unfolding pointSquare
@@ -225,7 +265,7 @@ line g s = record { given = g; stated = s }
 
 unfoldable pub lines : List Line
 unfolding line sqrtOf containerOf S find seven moved eight sixThree retire sevenGone closed holding withTolerance pointCircleAnswer ofDistance ofChange keysOf inTriangle inside
-    anchors sides equalRoots stacked squareTo distanceTo lt check four fourWith
+    anchors sides equalRoots stacked squareTo distanceTo lt check four fourWith build look filedMoved filedGone threeOf ofLookUp lookingUp beside places
 lines =
     -- S has divisions 8 and 4, and side 1
     line (numbers (counts 2 (S .ndiv))) (numbers (8 ∷ 4 ∷ []))
@@ -305,6 +345,26 @@ lines =
     ∷ line (check (fourWith (32 ∷ 2 ∷ 9 ∷ 10 ∷ []) (zeroF ∷ fin true 0 (pos 0) ∷ zeroF ∷ zeroF ∷ []))) (numbers (0 ∷ 1 ∷ []))
     -- more rows in use than there is room for
     ∷ line (check (holding 2 3)) (refusal 13)
+    -- Document 02, request e: the directory of rows of keys 1, 2, 2, 9, 10 in six places, the last two zero; its used count is not read; three places are too few
+    ∷ line (ofChange (build 6 .answer)) (number 4)
+    ∷ line (threeOf (build 6 .directory)) (numbers (1 ∷ 2 ∷ 9 ∷ 10 ∷ 0 ∷ 0 ∷ 0 ∷ 1 ∷ 3 ∷ 4 ∷ 0 ∷ 0 ∷ 1 ∷ 2 ∷ 1 ∷ 1 ∷ 0 ∷ 0 ∷ []))
+    ∷ line (ofChange (build 3 .answer)) (refusal 12)
+    -- look-ups: of places 0 to 3 place 1 is read first, the lower of the two in the middle; then place 0, or 2 and then 3
+    ∷ line (look 2) (numbers (1 ∷ 1 ∷ []))
+    ∷ line (look 1) (numbers (0 ∷ 2 ∷ []))
+    ∷ line (look 9) (numbers (2 ∷ 2 ∷ []))
+    ∷ line (look 10) (numbers (3 ∷ 3 ∷ []))
+    -- keys that no row has: below, between and above those in use, which is no container of S
+    ∷ line (look 0) (numbers (2 ∷ []))
+    ∷ line (look 5) (numbers (2 ∷ []))
+    ∷ line (look 77) (numbers (3 ∷ []))
+    -- 7 at (5.5, 2.5) opens a place of key 21, which four places have no room for; striking 7 leaves 8's alone
+    ∷ line (threeOf (filedMoved 6 .directory)) (numbers (1 ∷ 2 ∷ 9 ∷ 10 ∷ 21 ∷ 0 ∷ 0 ∷ 1 ∷ 3 ∷ 4 ∷ 5 ∷ 0 ∷ 1 ∷ 2 ∷ 1 ∷ 1 ∷ 1 ∷ 0 ∷ []))
+    ∷ line (ofChange (filedMoved 4 .answer)) (refusal 12)
+    ∷ line (threeOf (filedGone .directory)) (numbers (2 ∷ 0 ∷ 0 ∷ 0 ∷ 0 ∷ 0 ∷ 0 ∷ 0 ∷ 0 ∷ 0 ∷ 0 ∷ 0 ∷ 1 ∷ 0 ∷ 0 ∷ 0 ∷ 0 ∷ 0 ∷ []))
+    -- places in use that are not the directory of the rows, and more in use than there are
+    ∷ line (ofLookUp (lookingUp S (beside 8) (places 6 4) 2)) (refusal 29)
+    ∷ line (ofLookUp (lookingUp S (beside 8) (places 3 4) 2)) (refusal 13)
     ∷ []
 
 -- each line gives what it states

@@ -5,7 +5,7 @@ use mathlib.Core.Path.{_≡_, refl, sym, _∙_, ap}
 use mathlib.Core.Bool.{Bool, true, false, _&&_, and-false}
 use mathlib.Core.Logic.{⊎-elim}
 use mathlib.Core.Option.{Option, none, some, Option·elim, Option·some-ne-none}
-use mathlib.Core.List.{List, [], _∷_, _++_, List·Memᴰ, List·Memᴰ·head, List·Memᴰ·tail, List·Memᴰ·not-nil, List·Memᴰ·cases-cons}
+use mathlib.Core.List.{List, [], _∷_, _++_, append-assoc, List·Memᴰ, List·Memᴰ·head, List·Memᴰ·tail, List·Memᴰ·not-nil, List·Memᴰ·cases-cons}
 use lib.Dec.{ltb, eqb}
 use lib.ListN.{length}
 use lib.Ieee.{Float, le, eq}
@@ -18,22 +18,25 @@ use Rattle.floats.proofs.Order.{eq-le}
 use Rattle.grid_search.specs.declared.GridSearch.{GridSearch}
 use Rattle.table.specs.declared.Row.{Row}
 use Rattle.table.specs.Rows.{slotted, idIn, rowFor}
-use Rattle.table.specs.Library.{Library, table}
+use Rattle.table.specs.Library.{Library}
 use Rattle.table.proofs.Ids.{rowFor-among}
 use Rattle.rows.specs.Damage.{libraryTests}
+use Rattle.directory.specs.Directory.{Directory}
+use Rattle.directory.specs.Calls.{bothTests, directoryTests}
 use Rattle.rows.specs.Insert.{containerOf, positionTests}
-use Rattle.rows.proofs.Check.{whole}
-use Rattle.search.specs.Search.{nearRows, away, chosen, searchTests, searchAnswer}
+use Rattle.search.specs.Search.{nearRows, away, chosen}
 use Rattle.search.proofs.Choice.{Leads, Choice, near-row, chosen-row, chosen-none}
 use Rattle.listing.specs.declared.Filter.{Filter}
 use Rattle.sorting.specs.Ascent.{ascending}
 use Rattle.listing.specs.Place.{Asked, isOn, placeTests}
-use Rattle.listing.specs.Listing.{idsOn, onTests, listingTests, listing}
+use Rattle.listing.specs.Listing.{occupied}
 use Rattle.basics.specs.Filled.{Filled, fill}
 use Rattle.basics.proofs.Filled.{fill-success, fill-refused}
-use Rattle.independence.specs.Queries.{pass, near, distance, on}
+use Rattle.independence.specs.Holdings.{Holding, rowsIn, testsBy, holdingTests, searching, listingIn}
+use Rattle.independence.specs.Queries.{pass, nearTests, near, distance, idsIn, placedTests, on}
 use Rattle.independence.specs.Claims.{Finding, Writing}
 use Rattle.table.proofs.Libraries.{length-table}
+use Rattle.independence.proofs.Holdings.{order-in, searching-is, listing-is}
 use Rattle.independence.proofs.Ids.{holds, ids-ascend, ids-no-more}
 use Rattle.independence.proofs.Replies.{value-of, refusal-of}
 use Rattle.independence.proofs.Damage.{clean, says, came-later}
@@ -58,42 +61,38 @@ row-held r (t ∷ rows) m {i} e =
 
 -- ---- search
 
-search-is : (s : GridSearch) (l : Library) (x : List Float) → searchAnswer s l x ≡ answer (fault (searchTests s l x)) (chosen s x (nearRows s x (table l)))
-unfolding searchAnswer
-search-is s l x = refl
-
-near-is : (s : GridSearch) (l : Library) (x : List Float) (i : ℕ) → near s l x i ≡ (pass (searchTests s l x) && holds i (nearRows s x (table l)))
+near-is : (s : GridSearch) (l : Holding) (x : List Float) (i : ℕ) → near s l x i ≡ (pass (nearTests s l x) && holds i (nearRows s x (rowsIn l)))
 unfolding near
 near-is s l x i = refl
 
-module _ (s : GridSearch) (l : Library) (x : List Float) where
+module _ (s : GridSearch) (l : Holding) (x : List Float) where
   abbrev rows : List Row
-  rows = nearRows s x (table l)
+  rows = nearRows s x (rowsIn l)
 
-  valued : {o : Option ℕ} → searchAnswer s l x ≡ success o → (fault (searchTests s l x) ≡ none) × (chosen s x rows ≡ o)
-  valued e = value-of (fault (searchTests s l x)) (chosen s x rows) (sym (search-is s l x) ∙ e)
+  valued : {o : Option ℕ} → searching s l x ≡ success o → (fault (nearTests s l x) ≡ none) × (chosen s x rows ≡ o)
+  valued e = value-of (fault (nearTests s l x)) (chosen s x rows) (sym (searching-is s l x) ∙ e)
 
-  turned : {n : ℕ} → searchAnswer s l x ≡ refused n → pass (searchTests s l x) ≡ false
+  turned : {n : ℕ} → searching s l x ≡ refused n → pass (nearTests s l x) ≡ false
   unfolding pass isNone
-  turned e = ap isNone (refusal-of (fault (searchTests s l x)) (chosen s x rows) (sym (search-is s l x) ∙ e))
+  turned e = ap isNone (refusal-of (fault (nearTests s l x)) (chosen s x rows) (sym (searching-is s l x) ∙ e))
 
   -- where no test fails, the rows are in strict order: a near row is the only one of its id in the container
-  only-row : fault (searchTests s l x) ≡ none → (r : Row) → List·Memᴰ r rows → {i : ℕ} → idIn r ≡ i → rowFor (slotted (containerOf s x) i) (table l) ≡ some r
-  unfolding searchTests
+  only-row : fault (nearTests s l x) ≡ none → (r : Row) → List·Memᴰ r rows → {i : ℕ} → idIn r ≡ i → rowFor (slotted (containerOf s x) i) (rowsIn l) ≡ some r
+  unfolding nearTests
   only-row v r m e =
-      let n = near-row s x (table l) r m in
-      let order = whole s l (fault-left (libraryTests s l) (positionTests s x (x ∷ [])) v) .order in
-      rw (sym e, sym (n .there)) (rowFor-among r (table l) order (n .among))
+      let n = near-row s x (rowsIn l) r m in
+      let order = order-in s l (fault-left (holdingTests s l) (positionTests s x (x ∷ [])) v) in
+      rw (sym e, sym (n .there)) (rowFor-among r (rowsIn l) order (n .among))
 
   -- so that its distance is that of the id
-  measured : fault (searchTests s l x) ≡ none → (r : Row) → List·Memᴰ r rows → {i : ℕ} → idIn r ≡ i → distance s l x i ≡ away s x r
+  measured : fault (nearTests s l x) ≡ none → (r : Row) → List·Memᴰ r rows → {i : ℕ} → idIn r ≡ i → distance s l x i ≡ away s x r
   unfolding distance Option·elim
   measured v r m e = rw (only-row v r m e)
 
   -- the id found is that of the row chosen, and an id that is near that of a near row
-  module _ (j : ℕ) (e : searchAnswer s l x ≡ success (some j)) where
+  module _ (j : ℕ) (e : searching s l x ≡ success (some j)) where
     picked : (r : Row) × Choice s x rows r × (idIn r ≡ j)
-    picked = chosen-row s x (table l) j (valued e .1)
+    picked = chosen-row s x (rowsIn l) j (valued e .1)
 
     found-near : near s l x j ≡ true
     unfolding pass isNone
@@ -101,7 +100,7 @@ module _ (s : GridSearch) (l : Library) (x : List Float) where
 
     module _ (i : ℕ) (h : near s l x i ≡ true) where
       other : (r : Row) × List·Memᴰ r rows × (idIn r ≡ i)
-      other = held-row i rows (and-both (pass (searchTests s l x)) (holds i rows) (sym (near-is s l x i) ∙ h) .1)
+      other = held-row i rows (and-both (pass (nearTests s l x)) (holds i rows) (sym (near-is s l x i) ∙ h) .1)
 
       leading : Leads s x (picked .0) (other .0)
       leading = picked .1 .leads (other .0) (other .1)
@@ -126,8 +125,8 @@ module _ (s : GridSearch) (l : Library) (x : List Float) where
     is-lowest = no-lower;
     nothing-near = λ e i.
         near-is s l x i
-        ∙ ap (λ (rs : List Row). pass (searchTests s l x) && holds i rs) (chosen-none s x (table l) (valued e .1))
-        ∙ and-false (pass (searchTests s l x));
+        ∙ ap (λ (rs : List Row). pass (nearTests s l x) && holds i rs) (chosen-none s x (rowsIn l) (valued e .1))
+        ∙ and-false (pass (nearTests s l x));
     refused-near = λ n e i. near-is s l x i ∙ ap (λ (b : Bool). b && holds i rows) (turned e);
   }
 
@@ -158,43 +157,50 @@ pass-left : (us ts : List Test) → fault (us ++ ts) ≡ none → pass us ≡ tr
 unfolding pass isNone
 pass-left us ts e = ap isNone (fault-left us ts e)
 
-module _ (s : GridSearch) (l : Library) (p : Asked) (f : Filter) (lent : List ℕ) where
-  on-is : (i : ℕ) → on s l p f i ≡ (pass (onTests s l p f) && has i (idsOn s l p f))
+module _ (s : GridSearch) (l : Holding) (p : Asked) (f : Filter) (lent : List ℕ) where
+  on-is : (i : ℕ) → on s l p f i ≡ (pass (placedTests s l p f) && has i (idsIn s l p f))
   unfolding on
   on-is i = refl
 
   tests : List Test
-  tests = onTests s l p f ++ (refuse 14 (ltb (length lent) (length (idsOn s l p f))) ∷ [])
+  tests = placedTests s l p f ++ (refuse 14 (ltb (length lent) (length (idsIn s l p f))) ∷ [])
 
-  listing-is : listing s l p f lent ≡ fill (fault tests) (idsOn s l p f) lent
-  unfolding listing listingTests tests
-  listing-is = refl
+  listed-is : listingIn s l p f lent ≡ fill (fault tests) (idsIn s l p f) lent
+  unfolding tests placedTests
+  listed-is =
+      listing-is s l p f lent
+      ∙ ap (λ (ts : List Test). fill (fault ts) (idsIn s l p f) lent)
+      (sym (append-assoc (holdingTests s l) (placeTests s p f (occupied (rowsIn l))) (refuse 14 (ltb (length lent) (length (idsIn s l p f))) ∷ [])))
 
-  listed-ascend : ascending (idsOn s l p f) ≡ true
-  unfolding idsOn
-  listed-ascend = ids-ascend (isOn s p f) (table l)
+  listed-ascend : ascending (idsIn s l p f) ≡ true
+  unfolding idsIn
+  listed-ascend = ids-ascend (isOn s p f) (rowsIn l)
 
-  listed-no-more : length (idsOn s l p f) ≤ l .used
-  unfolding idsOn
-  listed-no-more = omega (arith, ids-no-more (isOn s p f) (table l), length-table l)
+  listed-no-more : length (idsIn s l p f) ≤ l .library .used
+  unfolding idsIn
+  listed-no-more = omega (arith, ids-no-more (isOn s p f) (rowsIn l), length-table (l .library))
 
-  no-14 : clean (says 14) (onTests s l p f) ≡ true
-  unfolding clean all says onTests libraryTests placeTests
-  no-14 = refl
+  no-14 : clean (says 14) (placedTests s l p f) ≡ true
+  unfolding placedTests holdingTests
+  no-14 = never (l .library) (l .directory)
+    where
+      never : (m : Library) (o : Option Directory) → clean (says 14) (testsBy s m o ++ placeTests s p f (occupied (rowsIn l))) ≡ true
+      never m none = unfold clean all says testsBy libraryTests placeTests in refl
+      never m (some d) = unfold clean all says testsBy directoryTests bothTests placeTests in refl
 
   pub writing : Writing s l p f lent
   unfolding tests
   writing = record {
     writes = λ n e.
-        let d = fill-success (idsOn s l p f) lent n (fault tests) (ap (λ (t : Filled). t .answer) (sym listing-is) ∙ e) in
-        let t = pass-left (onTests s l p f) (refuse 14 (ltb (length lent) (length (idsOn s l p f))) ∷ []) (d .0) in
-        (ap (λ (t : Filled). t .list) listing-is ∙ d .1, d .2, λ i. sym (on-is i ∙ ap (λ (b : Bool). b && has i (idsOn s l p f)) t));
+        let d = fill-success (idsIn s l p f) lent n (fault tests) (ap (λ (t : Filled). t .answer) (sym listed-is) ∙ e) in
+        let t = pass-left (placedTests s l p f) (refuse 14 (ltb (length lent) (length (idsIn s l p f))) ∷ []) (d .0) in
+        (ap (λ (t : Filled). t .list) listed-is ∙ d .1, d .2, λ i. sym (on-is i ∙ ap (λ (b : Bool). b && has i (idsIn s l p f)) t));
     ascend = listed-ascend;
     no-more = listed-no-more;
     long-enough = λ h e.
-        never-14 (onTests s l p f) (ltb (length lent) (length (idsOn s l p f))) no-14 (le-ltb (length lent) (length (idsOn s l p f)) (omega (arith, listed-no-more)))
-        (fill-refused (idsOn s l p f) lent 14 (fault tests) (ap (λ (t : Filled). t .answer) (sym listing-is) ∙ e));
+        never-14 (placedTests s l p f) (ltb (length lent) (length (idsIn s l p f))) no-14 (le-ltb (length lent) (length (idsIn s l p f)) (omega (arith, listed-no-more)))
+        (fill-refused (idsIn s l p f) lent 14 (fault tests) (ap (λ (t : Filled). t .answer) (sym listed-is) ∙ e));
     refused-on = λ n e g i.
-        let d = fill-refused (idsOn s l p f) lent n (fault tests) (ap (λ (t : Filled). t .answer) (sym listing-is) ∙ e) in
-        on-is i ∙ ap (λ (b : Bool). b && has i (idsOn s l p f)) (before-14 (onTests s l p f) (ltb (length lent) (length (idsOn s l p f))) n d g);
+        let d = fill-refused (idsIn s l p f) lent n (fault tests) (ap (λ (t : Filled). t .answer) (sym listed-is) ∙ e) in
+        on-is i ∙ ap (λ (b : Bool). b && has i (idsIn s l p f)) (before-14 (placedTests s l p f) (ltb (length lent) (length (idsIn s l p f))) n d g);
   }

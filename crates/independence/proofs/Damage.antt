@@ -1,9 +1,9 @@
--- No run damages a library: 24 and 13 go on being passed, and no call is refused with them.
+-- No run damages a library or its directory: 24, 13 and 29 go on being passed, and no call is refused with them.
 use Prim.Native.Nat.{ℕ}
 use mathlib.Core.Path.{_≡_, refl, sym, _∙_, ap}
 use mathlib.Core.Bool.{Bool, true, false, not}
 use mathlib.Core.Option.{Option, none, some}
-use mathlib.Core.List.{List, [], _∷_, _++_, append-assoc}
+use mathlib.Core.List.{List, [], _∷_, _++_}
 use lib.Dec.{ltb, eqb}
 use lib.ListN.{length}
 use lib.Ieee.{Float}
@@ -13,25 +13,26 @@ use Rattle.basics.specs.Lists.{all}
 use Rattle.basics.specs.Refusals.{Test, refuse, fault, answer}
 use Rattle.basics.proofs.Refusals.{fault-right, fault-stop}
 use Rattle.grid_search.specs.declared.GridSearch.{GridSearch}
-use Rattle.table.specs.Library.{Library, table, space}
-use Rattle.rows.specs.Damage.{libraryTests}
 use Rattle.rows.specs.Insert.{positionTests, roomTests}
 use Rattle.strike.specs.Strike.{idTests}
-use Rattle.search.specs.Search.{searchTests, searchAnswer, chosen, nearRows}
+use Rattle.search.specs.Search.{chosen, nearRows}
 use Rattle.listing.specs.declared.Filter.{Filter}
 use Rattle.listing.specs.Place.{Asked, placeTests}
-use Rattle.listing.specs.Listing.{idsOn, occupied, onTests, listingTests, listing}
-use Rattle.basics.specs.Filled.{fill}
+use Rattle.listing.specs.Listing.{occupied}
+use Rattle.basics.specs.Filled.{Filled, fill}
+use Rattle.independence.specs.Holdings.{Holding, rowsIn, lent, holdingTests}
 use Rattle.independence.specs.Run.{Change, insert, strike, Call, change, search, list, Reply, step, refusalIn, refusal, run, replies}
+use Rattle.independence.specs.Queries.{nearTests, idsIn}
 use Rattle.independence.specs.Claims.{blames}
-use Rattle.independence.proofs.Changes.{changeTests, ownTests, step-done, step-refused, changed-space, changed-passes}
+use Rattle.independence.proofs.Holdings.{placesTests, searching-is, ownListTests, listing-is}
+use Rattle.independence.proofs.Changes.{plainTests, changeTests, ownTests, step-done, step-refused, changed-space, changed-passes}
 use Rattle.independence.proofs.Runs.{kept}
 
-pub space-kept : (s : GridSearch) (calls : List Call) (l : Library) → space (run s l calls) ≡ space l
-space-kept s calls l = kept s (λ (m : Library). space m ≡ space l) (λ m c e z. changed-space s m c e ∙ z) calls l refl
+pub space-kept : (s : GridSearch) (calls : List Call) (l : Holding) → lent (run s l calls) ≡ lent l
+space-kept s calls l = kept s (λ (m : Holding). lent m ≡ lent l) (λ m c e z. changed-space s m c e ∙ z) calls l refl
 
-pub tests-kept : (s : GridSearch) (calls : List Call) (l : Library) → fault (libraryTests s l) ≡ none → fault (libraryTests s (run s l calls)) ≡ none
-tests-kept s = kept s (λ (m : Library). fault (libraryTests s m) ≡ none) (λ m c e v. changed-passes s m c e)
+pub tests-kept : (s : GridSearch) (calls : List Call) (l : Holding) → fault (holdingTests s l) ≡ none → fault (holdingTests s (run s l calls)) ≡ none
+tests-kept s = kept s (λ (m : Holding). fault (holdingTests s m) ≡ none) (λ m c e v. changed-passes s m c e)
 
 -- ---- the numbers
 
@@ -75,23 +76,22 @@ refusal-out none ids lent = refl
 refusal-out (some n) ids lent = refl
 
 -- a call's refusal is the first of its tests that fails: those of the library, and then its own
-module _ (s : GridSearch) (l : Library) where
+module _ (s : GridSearch) (l : Holding) where
   refusal-change : (c : Change) (o : Option ℕ) → fault (changeTests s l c) ≡ o → refusal (step s l (change c) .reply) ≡ fault (changeTests s l c)
   refusal-change c none e = step-done s l c e .1 ∙ sym e
   refusal-change c (some n) e = step-refused s l c n e .1 ∙ sym e
 
-  refusal-search : (x : List Float) → refusal (step s l (search x) .reply) ≡ fault (libraryTests s l ++ positionTests s x (x ∷ []))
-  unfolding step refusal searchAnswer searchTests
-  refusal-search x = refusal-answer (fault (searchTests s l x)) (chosen s x (nearRows s x (table l)))
+  refusal-search : (x : List Float) → refusal (step s l (search x) .reply) ≡ fault (holdingTests s l ++ positionTests s x (x ∷ []))
+  unfolding step refusal nearTests
+  refusal-search x = ap refusalIn (searching-is s l x) ∙ refusal-answer (fault (nearTests s l x)) (chosen s x (nearRows s x (rowsIn l)))
 
-  refusal-list : (p : Asked) (f : Filter) (lent : List ℕ)
-      → refusal (step s l (list p f lent) .reply) ≡ fault (libraryTests s l ++ (placeTests s p f (occupied (table l)) ++ (refuse 14 (ltb (length lent) (length (idsOn s l p f))) ∷ [])))
-  unfolding step refusal listing listingTests onTests
-  refusal-list p f lent = refusal-out (fault (listingTests s l p f (length lent))) (idsOn s l p f) lent ∙ ap fault (append-assoc (libraryTests s l) (placeTests s p f (occupied (table l))) (refuse 14 (ltb (length lent) (length (idsOn s l p f))) ∷ []))
+  refusal-list : (p : Asked) (f : Filter) (lent : List ℕ) → refusal (step s l (list p f lent) .reply) ≡ fault (holdingTests s l ++ ownListTests s l p f lent)
+  unfolding step refusal
+  refusal-list p f lent = ap (λ (t : Filled). refusalIn (t .answer)) (listing-is s l p f lent) ∙ refusal-out (fault (holdingTests s l ++ ownListTests s l p f lent)) (idsIn s l p f) lent
 
 -- a clause for each kind of change
-clean-change : (s : GridSearch) (l : Library) (c : Change) → clean blames (ownTests s l c) ≡ true
-unfolding clean all ownTests positionTests roomTests idTests blames
+clean-change : (s : GridSearch) (l : Holding) (c : Change) → clean blames (ownTests s l c) ≡ true
+unfolding clean all ownTests plainTests placesTests positionTests roomTests idTests blames
 clean-change s l (insert i x) = refl
 clean-change s l (strike i) = refl
 
@@ -103,24 +103,23 @@ clean-place : (s : GridSearch) (p : Asked) (f : Filter) (b t : Bool) → clean b
 unfolding clean all placeTests blames
 clean-place s p f b t = refl
 
-module _ (s : GridSearch) (l : Library) (v : fault (libraryTests s l) ≡ none) where
-  past : (ts : List Test) → clean blames ts ≡ true → blames (fault (libraryTests s l ++ ts)) ≡ false
-  past ts e = ap blames (fault-right (libraryTests s l) ts v) ∙ clean-fault blames none-blamed ts e
+module _ (s : GridSearch) (l : Holding) (v : fault (holdingTests s l) ≡ none) where
+  past : (ts : List Test) → clean blames ts ≡ true → blames (fault (holdingTests s l ++ ts)) ≡ false
+  past ts e = ap blames (fault-right (holdingTests s l) ts v) ∙ clean-fault blames none-blamed ts e
 
   blameless-step : (c : Call) → blames (refusal (step s l c .reply)) ≡ false
   blameless-step (change c) = ap blames (refusal-change s l c (fault (changeTests s l c)) refl) ∙ unfold changeTests in past (ownTests s l c) (clean-change s l c)
   blameless-step (search x) = ap blames (refusal-search s l x) ∙ past (positionTests s x (x ∷ [])) (clean-position s x (x ∷ []))
-  blameless-step (list p f lent) = ap blames (refusal-list s l p f lent) ∙ past (placeTests s p f (occupied (table l)) ++ (refuse 14 (ltb (length lent) (length (idsOn s l p f))) ∷ [])) (clean-place s p f (occupied (table l)) (ltb (length lent) (length (idsOn s l p f))))
+  blameless-step (list p f lent) = ap blames (refusal-list s l p f lent) ∙ past (ownListTests s l p f lent) (clean-place s p f (occupied (rowsIn l)) (ltb (length lent) (length (idsIn s l p f))))
 
-pub blameless-run : (s : GridSearch) (calls : List Call) (l : Library) → fault (libraryTests s l) ≡ none → all (λ (r : Reply). not (blames (refusal r))) (replies s l calls) ≡ true
+pub blameless-run : (s : GridSearch) (calls : List Call) (l : Holding) → fault (holdingTests s l) ≡ none → all (λ (r : Reply). not (blames (refusal r))) (replies s l calls) ≡ true
 unfolding run replies all
 blameless-run s [] l v = refl
-blameless-run s (c ∷ calls) l v = both (ap not (blameless-step s l v c)) (blameless-run s calls (step s l c .library) (tests-kept s (c ∷ []) l v))
+blameless-run s (c ∷ calls) l v = both (ap not (blameless-step s l v c)) (blameless-run s calls (step s l c .holding) (tests-kept s (c ∷ []) l v))
 
 -- a library that its own tests refuse refuses every call with their number
-pub refused-step : (s : GridSearch) (l : Library) (n : ℕ) → fault (libraryTests s l) ≡ some n → (c : Call) → refusal (step s l c .reply) ≡ some n
-refused-step s l n u (change c) = refusal-change s l c (fault (changeTests s l c)) refl ∙ unfold changeTests in fault-stop (libraryTests s l) (ownTests s l c) n u
-refused-step s l n u (search x) = refusal-search s l x ∙ fault-stop (libraryTests s l) (positionTests s x (x ∷ [])) n u
+pub refused-step : (s : GridSearch) (l : Holding) (n : ℕ) → fault (holdingTests s l) ≡ some n → (c : Call) → refusal (step s l c .reply) ≡ some n
+refused-step s l n u (change c) = refusal-change s l c (fault (changeTests s l c)) refl ∙ unfold changeTests in fault-stop (holdingTests s l) (ownTests s l c) n u
+refused-step s l n u (search x) = refusal-search s l x ∙ fault-stop (holdingTests s l) (positionTests s x (x ∷ [])) n u
 refused-step s l n u (list p f lent) =
-    refusal-list s l p f lent
-    ∙ fault-stop (libraryTests s l) (placeTests s p f (occupied (table l)) ++ (refuse 14 (ltb (length lent) (length (idsOn s l p f))) ∷ [])) n u
+    refusal-list s l p f lent ∙ fault-stop (holdingTests s l) (ownListTests s l p f lent) n u

@@ -1,4 +1,4 @@
--- Runs on document 01's sheet S, evaluated: ids 6, 7 and 8, refused calls, strikings, the history of 7 alone in another library, and the distances of a mark that moved.
+-- Runs on document 01's sheet S, evaluated, without a directory and with one: ids 6, 7 and 8, refused calls, strikings, the history of 7 alone in another library, and the distances of a mark that moved.
 use Prim.Native.Nat.{ℕ}
 use mathlib.Core.Path.{_≡_, refl}
 use mathlib.Core.Bool.{Bool, true, false}
@@ -15,7 +15,9 @@ use Rattle.grid_search.specs.declared.GivenF64.the-variants as float
 use Rattle.grid_search.specs.declared.GridSearch.{GridSearch}
 use Rattle.grid_search.specs.Sheet.{sheetFrom}
 use Rattle.table.specs.Rows.{keyIn, before, same}
-use Rattle.table.specs.Library.{Library, table}
+use Rattle.table.specs.Library.{Library}
+use Rattle.directory.specs.Directory.{directory}
+use Rattle.independence.specs.Holdings.{Holding, bare, indexed, rowsIn}
 use Rattle.listing.specs.declared.Filter.the-variants.{Everything}
 use Rattle.listing.specs.Place.{Asked, line}
 use Rattle.independence.specs.Run.{Change, insert, strike, Call, change, search, list, counted, found, listed, run, replies}
@@ -73,14 +75,18 @@ calls =
     ∷ list upright Everything (0 ∷ [])
     ∷ []
 
--- two libraries of one space
-l : Library
+-- two libraries of one space, and the first with a directory of so many places, full of one thing
+l : Holding
 unfolding empty
-l = empty 10 5 zeroF
+l = bare (empty 10 5 zeroF)
 
-l′ : Library
+l′ : Holding
 unfolding empty
-l′ = empty 10 900 nan
+l′ = bare (empty 10 900 nan)
+
+with : ℕ → Holding
+unfolding empty
+with n = indexed (empty 10 5 zeroF) (directory (replicate n 7) (replicate n 7) (replicate n 7) 0)
 
 -- 15 where there are rows and not before; 11 for the position outside; Nothing 1.125 tolerances away; then 6, the lower of two equally near (2,1); 14 for the short list
 all-replies : replies S l calls
@@ -106,16 +112,16 @@ unfolding history S l calls add sub mul div ofInt toUnsigned within before same
 history-of-7 = refl
 
 -- the containers in use, and those of 7 alone
-keys : map keyIn (table (run S l calls)) ≡ 1 ∷ 1 ∷ 2 ∷ 2 ∷ 2 ∷ 9 ∷ 9 ∷ 10 ∷ 10 ∷ 21 ∷ []
-unfolding run table S l calls add sub mul div ofInt toUnsigned within before same
+keys : map keyIn (rowsIn (run S l calls)) ≡ 1 ∷ 1 ∷ 2 ∷ 2 ∷ 2 ∷ 9 ∷ 9 ∷ 10 ∷ 10 ∷ 21 ∷ []
+unfolding run S l calls add sub mul div ofInt toUnsigned within before same
 keys = refl
 
-keys-alone : map keyIn (table (run S l′ (replay 7 S l calls))) ≡ 1 ∷ 2 ∷ 9 ∷ 10 ∷ 21 ∷ []
-unfolding run table history S l l′ calls add sub mul div ofInt toUnsigned within before same
+keys-alone : map keyIn (rowsIn (run S l′ (replay 7 S l calls))) ≡ 1 ∷ 2 ∷ 9 ∷ 10 ∷ 21 ∷ []
+unfolding run history S l l′ calls add sub mul div ofInt toUnsigned within before same
 keys-alone = refl
 
 -- 7 is near (2,1) and on the line in both, though search now names 6
-asked : Library → List Bool
+asked : Holding → List Bool
 unfolding near on upright pinched
 asked m = near S m (pow2 1 ∷ pow2 0 ∷ []) 7 ∷ on S m upright Everything 7 ∷ near S m (fin false 3 (pos 0) ∷ pow2⁻ 1 ∷ []) 7 ∷ on S m pinched Everything 7 ∷ []
 
@@ -166,12 +172,12 @@ unfolding history S l retired add sub mul div ofInt toUnsigned within before sam
 retired-history = refl
 
 -- what is left: 8 in container 2 and 7 in 21; and 7 alone, in the library that was given its history
-retired-keys : map keyIn (table (run S l retired)) ≡ 2 ∷ 21 ∷ []
-unfolding run table S l retired add sub mul div ofInt toUnsigned within before same
+retired-keys : map keyIn (rowsIn (run S l retired)) ≡ 2 ∷ 21 ∷ []
+unfolding run S l retired add sub mul div ofInt toUnsigned within before same
 retired-keys = refl
 
-retired-alone : map keyIn (table (run S l′ (replay 7 S l retired))) ≡ 21 ∷ []
-unfolding run table history S l l′ retired add sub mul div ofInt toUnsigned within before same
+retired-alone : map keyIn (rowsIn (run S l′ (replay 7 S l retired))) ≡ 21 ∷ []
+unfolding run history S l l′ retired add sub mul div ofInt toUnsigned within before same
 retired-alone = refl
 
 -- which accepted each of it
@@ -216,3 +222,26 @@ strayed-near = refl
 strayed-distances : map (distance S (run S l strayed) pole) (7 ∷ 8 ∷ []) ≡ fin false 3 (negsuc 10) ∷ fin false 5 (negsuc 11) ∷ []
 unfolding distance run S l strayed pole add sub mul div ofInt toUnsigned within before same
 strayed-distances = refl
+
+-- ---- the same runs with a directory
+
+-- of five places: the containers in use, their first rows and numbers of rows
+filed : run S (with 5) calls .directory ≡ some (directory (1 ∷ 2 ∷ 9 ∷ 10 ∷ 21 ∷ []) (0 ∷ 2 ∷ 5 ∷ 7 ∷ 9 ∷ []) (2 ∷ 3 ∷ 2 ∷ 2 ∷ 1 ∷ []) 5)
+unfolding run S with calls add sub mul div ofInt toUnsigned within before same
+filed = refl
+
+-- after strikings, with zeros past the places in use
+refiled : run S (with 5) retired .directory ≡ some (directory (2 ∷ 21 ∷ 0 ∷ 0 ∷ 0 ∷ []) (0 ∷ 1 ∷ 0 ∷ 0 ∷ 0 ∷ []) (1 ∷ 1 ∷ 0 ∷ 0 ∷ 0 ∷ []) 2)
+unfolding run S with retired add sub mul div ofInt toUnsigned within before same
+refiled = refl
+
+-- of four places: 7 at (5.5,2.5) needs a fifth, and is refused with 12; what came before it stays
+crowded : replies S (with 4) (change seven ∷ change seven-again ∷ search (pow2 1 ∷ pow2 0 ∷ []) ∷ []) ≡ counted (success 4) ∷ counted (refused 12) ∷ found (success (some 7)) ∷ []
+unfolding replies S with seven seven-again add sub mul div ofInt toUnsigned within before same
+crowded = refl
+
+-- a directory that does not match is 29, before anything else
+mismatched : replies S (indexed (empty 10 5 zeroF) (directory (1 ∷ []) (0 ∷ []) (0 ∷ []) 1)) (change outside ∷ list pinched Everything [] ∷ [])
+    ≡ counted (refused 29) ∷ listed (record { answer = refused 29; list = [] }) ∷ []
+unfolding replies S empty outside pinched add sub mul div ofInt toUnsigned within before same
+mismatched = refl

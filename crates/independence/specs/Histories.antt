@@ -11,8 +11,8 @@ use Rattle.geometry.specs.Position.{positionOf}
 use Rattle.grid_search.specs.declared.GridSearch.{GridSearch}
 use Rattle.table.specs.declared.Row.{Row}
 use Rattle.table.specs.Rows.{without}
-use Rattle.table.specs.Library.{Library}
 use Rattle.rows.specs.Insert.{targets, rowsWith}
+use Rattle.independence.specs.Holdings.{Holding}
 use Rattle.independence.specs.Run.{Change, insert, strike, Call, change, search, list, step, accepted}
 
 -- the id whose rows a change is about
@@ -21,15 +21,15 @@ whose (insert i x) = i
 whose (strike i) = i
 
 -- An id's history is its accepted insertions and strikings in order.
-unfoldable pub history : ℕ → GridSearch → Library → List Call → List Change
+unfoldable pub history : ℕ → GridSearch → Holding → List Call → List Change
 unfolding whose step accepted
-history i s l [] = []
-history i s l (change c ∷ calls) =
-    let t = step s l (change c) in
-    let rest = history i s (t .library) calls in
+history i s h [] = []
+history i s h (change c ∷ calls) =
+    let t = step s h (change c) in
+    let rest = history i s (t .holding) calls in
     cond (eqb (whose c) i && accepted (t .reply)) (c ∷ rest) rest
-history i s l (search x ∷ calls) = history i s l calls
-history i s l (list p f lent ∷ calls) = history i s l calls
+history i s h (search x ∷ calls) = history i s h calls
+history i s h (list p f lent ∷ calls) = history i s h calls
 
 -- the calls are of other ids, or change nothing
 unfoldable pub other : ℕ → Call → Bool

@@ -1,4 +1,5 @@
--- Calls on a library, one after the other. Each is answered by the definition that the contract of its function cites: `insertion`, `striking`, `searchAnswer`, `listing`.
+-- Calls on a library, with its directory or without one, one after the other. Each is answered by the definition that the contract of its function cites: `insertion`, `striking`, `searchAnswer`, `listing`,
+-- and with a directory the same through it.
 -- Assumes nothing.
 use Prim.Native.Nat.{ℕ}
 use mathlib.Core.Bool.{Bool}
@@ -11,11 +12,10 @@ use Rattle.table.specs.Library.{Library}
 use Rattle.rows.specs.Turn.{Turn}
 use Rattle.rows.specs.Insert.{insertion}
 use Rattle.strike.specs.Strike.{striking}
-use Rattle.search.specs.Search.{searchAnswer}
 use Rattle.listing.specs.declared.Filter.{Filter}
 use Rattle.listing.specs.Place.{Asked}
-use Rattle.listing.specs.Listing.{listing}
 use Rattle.basics.specs.Filled.{Filled}
+use Rattle.independence.specs.Holdings.{Holding, heldBy, searching, listingIn}
 
 -- a call that changes rows, and only rows of one id: an insertion of that id at a position, or its striking
 pub data Change : Type 0 where
@@ -36,22 +36,22 @@ pub data Reply : Type 0 where
 
 -- ---- one call
 
--- the library as a call leaves it, and its reply
+-- what was handed in as a call leaves it, and the call's reply
 pub record Step : Type 0 where
-  pub library : Library
+  pub holding : Holding
   pub reply : Reply
 
--- what a change answers and leaves
+-- what a change answers and leaves, without a directory
 unfoldable pub changing : GridSearch → Library → Change → Turn ℕ
 unfolding insertion striking
 changing s l (insert i x) = insertion s l i x
 changing s l (strike i) = striking s l i
 
-unfoldable pub step : GridSearch → Library → Call → Step
-unfolding changing searchAnswer listing
-step s l (change c) = let t = changing s l c in record { library = t .library; reply = counted (t .answer) }
-step s l (search x) = record { library = l; reply = found (searchAnswer s l x) }
-step s l (list p f lent) = record { library = l; reply = listed (listing s l p f lent) }
+unfoldable pub step : GridSearch → Holding → Call → Step
+unfolding changing heldBy searching listingIn
+step s h (change c) = let t = heldBy s (h .library) (h .directory) (changing s (h .library) c) in record { holding = t .holding; reply = counted (t .answer) }
+step s h (search x) = record { holding = h; reply = found (searching s h x) }
+step s h (list p f lent) = record { holding = h; reply = listed (listingIn s h p f lent) }
 
 -- document 01's number where the call was refused
 unfoldable pub refusalIn : {A : Type 0} → Answer A → Option ℕ
@@ -70,14 +70,14 @@ accepted r = isNone (refusal r)
 
 -- ---- one call after the other
 
--- the library after all the calls
-unfoldable pub run : GridSearch → Library → List Call → Library
+-- what was handed in after all the calls
+unfoldable pub run : GridSearch → Holding → List Call → Holding
 unfolding step
-run s l [] = l
-run s l (c ∷ calls) = run s (step s l c .library) calls
+run s h [] = h
+run s h (c ∷ calls) = run s (step s h c .holding) calls
 
 -- the reply of each call
-unfoldable pub replies : GridSearch → Library → List Call → List Reply
+unfoldable pub replies : GridSearch → Holding → List Call → List Reply
 unfolding step
-replies s l [] = []
-replies s l (c ∷ calls) = let t = step s l c in t .reply ∷ replies s (t .library) calls
+replies s h [] = []
+replies s h (c ∷ calls) = let t = step s h c in t .reply ∷ replies s (t .holding) calls
