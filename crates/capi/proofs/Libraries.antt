@@ -13,7 +13,7 @@ use Rattle.strike.specs.declared.Struck.{Struck}
 use Rattle.table.specs.declared.ItemId.{ItemId}
 use Rattle.search.specs.declared.Found.{Found}
 use Rattle.search.specs.declared.Found.the-variants.{Id, Nothing, Refused}
-use Rattle.search.specs.Search.{searchAnswer, found}
+use Rattle.search.specs.Search.{found}
 use Rattle.table.specs.Library.{Library, library}
 use Rattle.rows.specs.Turn.{Turn, Gives}
 use Rattle.rows.specs.Check.{Walk, checking, walked}
@@ -54,7 +54,7 @@ module _ (l : Library) (i : ℕ) {s s′ : GridSearch} (same : s′ ≡ s) {r : 
 -- ---- a search, for a mark or for a cell
 
 module _ {a : Answer (Option ℕ)} (old id : ℕ) where
-  told : {b : Answer (Option ℕ)} → b ≡ a → ToldFound a (number b) old (written (through flag b) old) id (idAfter b id)
+  pub told : {b : Answer (Option ℕ)} → b ≡ a → ToldFound a (number b) old (written (through flag b) old) id (idAfter b id)
   told e = record { returned = ap number e; found-is = ap (λ (c : Answer (Option ℕ)). written (through flag c) old) e; id-is = ap (λ (c : Answer (Option ℕ)). idAfter c id) e }
 
   pub told-id : (i : ℕ) → success (some i) ≡ a → ToldFound a 0 old 1 id i
@@ -66,26 +66,30 @@ module _ {a : Answer (Option ℕ)} (old id : ℕ) where
   pub told-away : (n : ℕ) → refused n ≡ a → ToldFound a n old old id id
   told-away n e = told e
 
--- ---- a check, on the sheet as the code has it
+-- ---- a call that asks, on the sheet as the code has it: its answer is that on the sheet which the lists hold
+
+module _ {A R : Type 0} (meaning : R → Answer A) (call : GridSearch → Answer A) {s s′ : GridSearch} (same : s′ ≡ s) {r : R} (g : meaning r ≡ call s′) where
+  pub on-sheet : {a : R} → r ≡ a → meaning a ≡ call s
+  on-sheet e = sym (ap meaning e) ∙ g ∙ ap call same
+
+-- ---- a check
 
 module _ (l : Library) {s s′ : GridSearch} (same : s′ ≡ s) {r : Walked} (g : walked r ≡ checking s′ l) (broken row visited : ℕ) where
   pub told-walk : {a : Walked} → r ≡ a
       → ToldWalk (checking s l) (number (badOf (walked a)))
       broken (written (through flag (badOf (walked a))) broken) row (idAfter (badOf (walked a)) row) visited (written (visitedOf (walked a)) visited)
   told-walk e =
-      let h = sym (ap walked e) ∙ g ∙ ap (λ (u : GridSearch). checking u l) same in
+      let h = on-sheet walked (λ (u : GridSearch). checking u l) same g e in
       record { told = told broken row (ap badOf h); visited-is = ap (λ (b : Answer Walk). written (visitedOf b) visited) h }
 
--- ---- a search for a mark, on the sheet as the code has it
-module _ (l : Library) (x : List Float) {s s′ : GridSearch} (same : s′ ≡ s) {r : Found} (g : found r ≡ searchAnswer s′ l x) (old id : ℕ) where
-  answered : {b : Found} → r ≡ b → found b ≡ searchAnswer s l x
-  answered e = sym (ap found e) ∙ g ∙ ap (λ (u : GridSearch). searchAnswer u l x) same
+-- ---- a search for a mark
 
-  pub mark-found : (i : ItemId) → r ≡ Id i → ToldFound (searchAnswer s l x) 0 old 1 id (i .0)
-  mark-found i e = told-id old id (i .0) (answered e)
+module _ (call : GridSearch → Answer (Option ℕ)) {s s′ : GridSearch} (same : s′ ≡ s) {r : Found} (g : found r ≡ call s′) (old id : ℕ) where
+  pub mark-found : (i : ItemId) → r ≡ Id i → ToldFound (call s) 0 old 1 id (i .0)
+  mark-found i e = told-id old id (i .0) (on-sheet found call same g e)
 
-  pub no-mark : r ≡ Nothing → ToldFound (searchAnswer s l x) 0 old 0 id id
-  no-mark e = told-nothing old id (answered e)
+  pub no-mark : r ≡ Nothing → ToldFound (call s) 0 old 0 id id
+  no-mark e = told-nothing old id (on-sheet found call same g e)
 
-  pub not-searched : (n : ℕ) → r ≡ Refused n → ToldFound (searchAnswer s l x) n old old id id
-  not-searched n e = told-away old id n (answered e)
+  pub not-searched : (n : ℕ) → r ≡ Refused n → ToldFound (call s) n old old id id
+  not-searched n e = told-away old id n (on-sheet found call same g e)

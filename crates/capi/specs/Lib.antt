@@ -8,3 +8,5 @@ pub mod Cells
 pub mod Indexes
 -- Point lists of surveyors.
 pub mod Surveys
+-- Directories of libraries.
+pub mod Directories

@@ -10,7 +10,7 @@ use listing::Filter;
 use listing::Listed;
 
 // The filter of a number: 0 for everything, 1 for a range. Any other is a range on an axis that no dimension has.
-fn filter_of(filter: u64, axis: u64, low: f64, high: f64) -> Filter
+pub(crate) fn filter_of(filter: u64, axis: u64, low: f64, high: f64) -> Filter
     ensures { λ r. ⌜ r ≡ filterOf filter axis low high ⌝ }
 {
     if filter == 0 {
