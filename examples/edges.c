@@ -1,7 +1,8 @@
 /* Insertion, striking, check, search and listing on libraries of every length up to 128, of 65,536 and of 65,537 rows, in 2D
-   and 3D, with every used count up to one above the length. Each list that is lent ends where memory ends, or begins where it
-   begins: pages that may not be touched stand on both sides of it. A check, a search and a listing get the rows where they
-   cannot be written. A refusal has to leave every byte as it was. */
+   and 3D, with every used count up to one above the length; and the same with directories that have just enough places, one
+   more and one too few. Each list that is lent ends where memory ends, or begins where it begins: pages that may not be touched
+   stand on both sides of it. A check, a search, a look-up and a listing get rows and places where they cannot be written, and a
+   build the rows. A refusal has to leave every byte as it was. */
 #define _DEFAULT_SOURCE
 #include "areas.h"
 #include "gemlab.h"
@@ -12,6 +13,7 @@
 #define SHORT 128
 #define MOST 65536
 #define LISTS 5
+#define PLACES 3 /* lists of a directory */
 #define NEW_ID (UINT64_C(1) << 40)
 #define CONTAINERS 10000 /* in 2D */
 
@@ -25,6 +27,9 @@ static void *entries(const struct area *area, size_t n, int at_end)
    lists of a sheet, and what the five lists held before a call. */
 static struct area lists[LISTS], shown[LISTS], position, listed, told[3], sheet[2];
 static char *before[LISTS];
+/* The same of a directory. */
+static struct area dir_lists[PLACES], dir_shown[PLACES];
+static char *dir_before[PLACES];
 static uint64_t numbers[GEMLAB_SHEET_NUMBERS];
 static double floats[GEMLAB_SHEET_FLOATS];
 static uint64_t calls, refusals[32];
@@ -480,6 +485,381 @@ static void unequal(size_t dim, size_t len, uint64_t used, int at_end)
     }
 }
 
+/* A directory as it is lent. */
+struct directory {
+    void *list[PLACES];
+    const void *shown[PLACES];
+    size_t len[PLACES];
+    uint64_t used;
+};
+
+/* So many places of any content. */
+static struct directory any_directory(size_t len, int at_end)
+{
+    struct directory directory;
+    size_t j;
+
+    directory.used = UINT64_MAX;
+    for (j = 0; j < PLACES; j++) {
+        directory.len[j] = len;
+        directory.list[j] = entries(&dir_lists[j], len, at_end);
+        directory.shown[j] = entries(&dir_shown[j], len, at_end);
+        memset(directory.list[j], 0xa5, 8 * len);
+    }
+    return directory;
+}
+
+static uint64_t get_place(const struct directory *directory, size_t list, uint64_t i)
+{
+    uint64_t entry;
+
+    memcpy(&entry, (const char *)directory->list[list] + 8 * i, 8);
+    return entry;
+}
+
+static void set_place(const struct directory *directory, size_t list, uint64_t i, uint64_t entry)
+{
+    memcpy((char *)directory->list[list] + 8 * i, &entry, 8);
+}
+
+static void keep_both(const struct library *library, const struct directory *directory)
+{
+    size_t j;
+
+    keep(library);
+    for (j = 0; j < PLACES; j++) {
+        memcpy(dir_before[j], directory->list[j], directory->len[j] * 8);
+    }
+}
+
+/* Whether the rows and the places are as they were. */
+static int kept_both(const struct library *library, const struct directory *directory)
+{
+    size_t j;
+
+    for (j = 0; j < PLACES; j++) {
+        if (memcmp(dir_before[j], directory->list[j], directory->len[j] * 8) != 0) {
+            return 0;
+        }
+    }
+    return kept(library, 0);
+}
+
+/* Whether a directory has a place for each container of the rows in use, and zeros past them. */
+static int matches(const struct library *library, const struct directory *directory)
+{
+    uint64_t row = 0, next, place = 0;
+
+    for (row = 0; row < library->used; row = next, place++) {
+        struct row first = get(library, row);
+
+        for (next = row; next < library->used && get(library, next).entry[0] == first.entry[0]; next++) {
+        }
+        if (place >= directory->len[0] || get_place(directory, 0, place) != first.entry[0]
+            || get_place(directory, 1, place) != row || get_place(directory, 2, place) != next - row) {
+            return 0;
+        }
+    }
+    if (directory->used != place) {
+        return 0;
+    }
+    for (; place < directory->len[0]; place++) {
+        if (get_place(directory, 0, place) != 0 || get_place(directory, 1, place) != 0 || get_place(directory, 2, place) != 0) {
+            return 0;
+        }
+    }
+    return 1;
+}
+
+/* The lists of a library and of a directory as arguments, to be written and to be read alone. */
+#define SHEET numbers, GEMLAB_SHEET_NUMBERS, floats, GEMLAB_SHEET_FLOATS
+#define ROWS(l, of) (l)->of[0], (l)->len[0], (l)->of[1], (l)->len[1], (l)->of[2], (l)->len[2], (l)->of[3], (l)->len[3], \
+        (l)->of[4], (l)->len[4]
+#define DIRECTORY(d, of) (d)->of[0], (d)->len[0], (d)->of[1], (d)->len[1], (d)->of[2], (d)->len[2]
+
+static uint64_t counted(uint64_t number)
+{
+    calls++;
+    refusals[number]++;
+    return number;
+}
+
+static uint64_t build(const struct library *l, struct directory *d)
+{
+    return counted(gemlab_directory_build(SHEET, ROWS(l, shown), l->used, DIRECTORY(d, list), &d->used));
+}
+
+static uint64_t look_up(const struct library *l, const struct directory *d, uint64_t key, uint64_t *found, uint64_t *place,
+                        uint64_t *reads)
+{
+    return counted(gemlab_directory_look_up(SHEET, ROWS(l, shown), l->used, DIRECTORY(d, shown), d->used, key, found, place,
+                                            reads));
+}
+
+static uint64_t insert_filed(struct library *l, struct directory *d, uint64_t id, const double *x, size_t x_len)
+{
+    return counted(gemlab_directory_insert(SHEET, ROWS(l, list), &l->used, DIRECTORY(d, list), &d->used, id, x, x_len));
+}
+
+static uint64_t strike_filed(struct library *l, struct directory *d, uint64_t id, uint64_t *removed)
+{
+    return counted(gemlab_directory_strike(SHEET, ROWS(l, list), &l->used, DIRECTORY(d, list), &d->used, id, removed));
+}
+
+static uint64_t search_filed(const struct library *l, const struct directory *d, const double *x, size_t x_len, uint64_t *found,
+                             uint64_t *id)
+{
+    return counted(gemlab_directory_search(SHEET, ROWS(l, shown), l->used, DIRECTORY(d, shown), d->used, x, x_len, found, id));
+}
+
+/* The ids on the line through the origin and x. */
+static uint64_t list_filed(const struct library *l, const struct directory *d, const double *x, size_t x_len, uint64_t *ids,
+                           size_t ids_len, uint64_t *count)
+{
+    static const double origin[3] = {0, 0, 0};
+
+    return counted(gemlab_directory_list(SHEET, ROWS(l, shown), l->used, DIRECTORY(d, shown), d->used, GEMLAB_LINE, origin,
+                                         x_len, x, x_len, 0, GEMLAB_EVERYTHING, 0, 0, 0, ids, ids_len, count));
+}
+
+/* The five calls that have a directory refuse it with this number, and leave everything. */
+static void refuse_filed(const char *what, size_t dim, struct library *library, struct directory *directory, int at_end,
+                         uint64_t wanted)
+{
+    static const double at[3] = {97.5, 97.5, 97.5};
+    uint64_t used = library->used, places = directory->used, found = 2, id = 5, count = 9;
+    uint64_t *results[3], *ids = entries(&listed, 1, at_end);
+    size_t j;
+
+    for (j = 0; j < 3; j++) {
+        results[j] = entries(&told[j], 1, at_end);
+        *results[j] = 7;
+    }
+    *ids = 3;
+    keep_both(library, directory);
+    if (look_up(library, directory, 0, results[0], results[1], results[2]) != wanted
+        || insert_filed(library, directory, NEW_ID, at, dim) != wanted || strike_filed(library, directory, 0, results[0]) != wanted
+        || search_filed(library, directory, at, dim, &found, &id) != wanted
+        || list_filed(library, directory, at, dim, ids, 1, &count) != wanted || !kept_both(library, directory)
+        || library->used != used || directory->used != places || *results[0] != 7 || *results[1] != 7 || *results[2] != 7
+        || found != 2 || id != 5 || count != 9 || *ids != 3) {
+        fail(what, dim, library->len[0], used, wanted);
+    }
+}
+
+/* Look-ups of every container of few, else of the first, one in the middle and the last, and of one that has no row. */
+static void look_up_all(size_t dim, const struct library *library, const struct directory *directory, int at_end)
+{
+    uint64_t *found = entries(&told[0], 1, at_end), *place = entries(&told[1], 1, at_end), *reads = entries(&told[2], 1, at_end);
+    uint64_t i;
+
+    for (i = 0; i <= directory->used; i++) {
+        uint64_t is_in_use = i < directory->used, key = is_in_use ? get_place(directory, 0, i) : UINT64_MAX;
+
+        if (directory->used > SHORT && i != 0 && i != directory->used / 2 && i + 1 < directory->used) {
+            continue;
+        }
+        *found = 2;
+        *place = 5;
+        *reads = 99;
+        if (look_up(library, directory, key, found, place, reads) != 0 || *found != is_in_use || *place != (is_in_use ? i : 5)
+            || *reads > 17 || (is_in_use && *reads == 0)) {
+            fail("look up", dim, library->len[0], library->used, i);
+        }
+    }
+}
+
+/* A search and a listing with the directory, which give what they give without. */
+static void ask_filed(size_t dim, const struct library *library, const struct directory *directory, int at_end)
+{
+    static const double at[3] = {0.5, 0.5, 0};
+    uint64_t *ids = entries(&listed, 16, at_end);
+    uint64_t found[2] = {2, 2}, id[2] = {5, 5}, count[2] = {9, 9}, one[16], number[2];
+
+    number[0] = search(library, at, dim, &found[0], &id[0]);
+    number[1] = search_filed(library, directory, at, dim, &found[1], &id[1]);
+    if (number[0] != number[1] || found[0] != found[1] || id[0] != id[1]) {
+        fail("search with a directory", dim, library->len[0], library->used, number[1]);
+    }
+    memset(one, 0, sizeof one);
+    memset(ids, 0, sizeof one);
+    number[0] = list(library, at, dim, one, 16, &count[0]);
+    number[1] = list_filed(library, directory, at, dim, ids, 16, &count[1]);
+    if (number[0] != number[1] || count[0] != count[1] || memcmp(one, ids, sizeof one) != 0) {
+        fail("list with a directory", dim, library->len[0], library->used, number[1]);
+    }
+    if (count[0] > 0 && number[0] == 0) {
+        number[1] = list_filed(library, directory, at, dim, ids, (size_t)count[0] - 1, &count[1]);
+        if (number[1] != GEMLAB_SHORT || count[1] != count[0] || memcmp(one, ids, sizeof one) != 0) {
+            fail("list with a directory, too short", dim, library->len[0], library->used, number[1]);
+        }
+    }
+}
+
+/* Any content past the places in use. */
+static void scribble(const struct directory *directory)
+{
+    size_t j, used = (size_t)directory->used;
+
+    for (j = 0; j < PLACES; j++) {
+        memset((char *)directory->list[j] + 8 * used, 0xa5, 8 * (directory->len[j] - used));
+    }
+}
+
+/* A mark comes and goes, and the directory follows. Its container has a place, or is to have a new one. */
+static void come_and_go(size_t dim, struct library *library, struct directory *directory, int at_end, double at, int is_new)
+{
+    double *x = entries(&position, dim, at_end);
+    uint64_t *removed = entries(&listed, 1, at_end);
+    uint64_t used = library->used, places = directory->used, after = places + (is_new ? 1 : 0), number;
+    uint64_t wanted = used == library->len[0] || after > directory->len[0] ? GEMLAB_FULL : GEMLAB_DONE;
+    size_t j;
+
+    for (j = 0; j < dim; j++) {
+        x[j] = at;
+    }
+    scribble(directory);
+    keep_both(library, directory);
+    number = insert_filed(library, directory, NEW_ID, x, dim);
+    if (number != wanted) {
+        fail("insert with a directory", dim, library->len[0], used, number);
+    }
+    if (number != 0) {
+        if (!kept_both(library, directory) || library->used != used || directory->used != places) {
+            fail("insert with a directory, memory", dim, library->len[0], used, number);
+        }
+        return;
+    }
+    if (!kept(library, (size_t)used + 1) || library->used != used + 1 || directory->used != after || !matches(library, directory)) {
+        fail("insert with a directory, memory", dim, library->len[0], used, number);
+    }
+    scribble(directory);
+    number = strike_filed(library, directory, NEW_ID, removed);
+    if (number != 0 || *removed != 1 || library->used != used || directory->used != places || !matches(library, directory)) {
+        fail("strike with a directory", dim, library->len[0], used, number);
+    }
+}
+
+/* Two marks come and go, in the last container and in the first, and then the first mark goes. */
+static void change_filed(size_t dim, struct library *library, struct directory *directory, int at_end)
+{
+    uint64_t *removed = entries(&listed, 1, at_end);
+    uint64_t used = library->used, places = directory->used, number;
+
+    come_and_go(dim, library, directory, at_end, 97.5, 1);
+    come_and_go(dim, library, directory, at_end, 0.5, used == 0);
+    scribble(directory);
+    keep_both(library, directory);
+    *removed = 9;
+    number = strike_filed(library, directory, 0, removed);
+    if (used == 0) {
+        if (number != GEMLAB_NO_ROW || *removed != 9 || !kept_both(library, directory) || directory->used != places) {
+            fail("strike of none with a directory", dim, library->len[0], used, number);
+        }
+        return;
+    }
+    close_up(library->len[0], used, 0);
+    if (number != 0 || *removed != 1 || library->used != used - 1 || !kept(library, 0) || !matches(library, directory)) {
+        fail("strike of the first with a directory", dim, library->len[0], used, number);
+    }
+}
+
+/* Directories that do not match, and lists that differ in length. */
+static void refuse_directories(size_t dim, struct library *library, const struct directory *good, int at_end)
+{
+    uint64_t last = good->used - 1;
+    size_t j;
+
+    for (j = 0; j < PLACES && good->used > 0; j++) {
+        struct directory directory = *good;
+        uint64_t was = get_place(good, j, last), first = get_place(good, j, 0);
+
+        set_place(good, j, last, was + 1);
+        refuse_filed("the last place", dim, library, &directory, at_end, GEMLAB_MISMATCH);
+        set_place(good, j, last, was);
+        set_place(good, j, 0, UINT64_MAX);
+        refuse_filed("the first place", dim, library, &directory, at_end, GEMLAB_MISMATCH);
+        set_place(good, j, 0, first);
+        directory.used = last;
+        refuse_filed("a place fewer", dim, library, &directory, at_end, GEMLAB_MISMATCH);
+    }
+    for (j = 0; j < PLACES && good->len[0] > 0; j++) {
+        struct directory directory = *good;
+
+        directory.used = good->used + 1;
+        refuse_filed("a place more", dim, library, &directory, at_end,
+                     directory.used <= good->len[0] ? GEMLAB_MISMATCH : GEMLAB_DAMAGED);
+        directory.used = good->used;
+        directory.len[j]--;
+        if (at_end) {
+            directory.list[j] = (char *)directory.list[j] + 8;
+            directory.shown[j] = (const char *)directory.shown[j] + 8;
+        }
+        refuse_filed("a list one shorter", dim, library, &directory, at_end, GEMLAB_DAMAGED);
+        if (build(library, &directory) != GEMLAB_DAMAGED || !kept_both(library, &directory) || directory.used != good->used) {
+            fail("build in lists of unequal length", dim, library->len[0], library->used, good->used);
+        }
+    }
+}
+
+/* A library with a directory of so many places. */
+static void filed_on(size_t dim, size_t len, uint64_t used, int at_end, size_t places)
+{
+    struct library library = fill(len, used, at_end);
+    struct directory directory = any_directory(places, at_end);
+    uint64_t number, wanted = expected(len, used, 0), containers = (used + 7) / 8;
+
+    if (places > MOST) {
+        wanted = GEMLAB_TOO_LONG;
+    }
+    if (wanted != GEMLAB_DONE) {
+        refuse_filed("with a directory", dim, &library, &directory, at_end, wanted);
+        directory.used = 0;
+        refuse_filed("with a directory", dim, &library, &directory, at_end, wanted);
+    } else if (places < containers) {
+        wanted = GEMLAB_FULL;
+        directory.used = 0;
+        refuse_filed("with no place in use", dim, &library, &directory, at_end, GEMLAB_MISMATCH);
+    }
+    directory.used = UINT64_MAX;
+    keep_both(&library, &directory);
+    number = build(&library, &directory);
+    if (number != wanted || !kept(&library, 0)) {
+        fail("build", dim, len, used, number);
+    }
+    if (number != 0) {
+        if (!kept_both(&library, &directory) || directory.used != UINT64_MAX) {
+            fail("build, memory", dim, len, used, number);
+        }
+        return;
+    }
+    if (directory.used != containers || !matches(&library, &directory)) {
+        fail("build, places", dim, len, used, number);
+    }
+    look_up_all(dim, &library, &directory, at_end);
+    ask_filed(dim, &library, &directory, at_end);
+    if (places > containers || used == len) {
+        refuse_directories(dim, &library, &directory, at_end);
+    }
+    change_filed(dim, &library, &directory, at_end);
+}
+
+/* Directories with just enough places, one more and one too few; and with as many as can be, and too many. */
+static void with_directories(size_t dim, size_t len, uint64_t used, int at_end)
+{
+    size_t containers = (size_t)(used + 7) / 8;
+
+    if (containers > 0) {
+        filed_on(dim, len, used, at_end, containers - 1);
+    }
+    filed_on(dim, len, used, at_end, containers);
+    filed_on(dim, len, used, at_end, containers + 1);
+    if (len >= MOST || used == len / 2) {
+        filed_on(dim, len, used, at_end, MOST);
+        filed_on(dim, len, used, at_end, MOST + 1);
+    }
+}
+
 static void one_length(size_t dim, size_t len, uint64_t used)
 {
     uint64_t corners = dim == 2 ? 4 : 8;
@@ -500,6 +880,7 @@ static void one_length(size_t dim, size_t len, uint64_t used)
             strike_on(dim, len, used, at_end, 1, 0);
         }
         check_on(dim, len, used, at_end);
+        with_directories(dim, len, used, at_end);
         if (len > 0) {
             unequal(dim, len, used, at_end);
         }
@@ -519,8 +900,15 @@ int main(void)
             return 2;
         }
     }
+    for (i = 0; i < PLACES; i++) {
+        make_views((MOST + 1) * 8, &dir_lists[i], &dir_shown[i]);
+        dir_before[i] = malloc((MOST + 1) * 8);
+        if (dir_before[i] == NULL) {
+            return 2;
+        }
+    }
     position = make_area(3 * 8);
-    listed = make_area(8);
+    listed = make_area(16 * 8);
     for (i = 0; i < 3; i++) {
         told[i] = make_area(8);
     }

@@ -250,15 +250,152 @@ static void lists(void)
     list("marks on a plane, in 2D", GEMLAB_PLANE_XY, a, b, 0, GEMLAB_EVERYTHING, 0, 0, 4);
 }
 
+/* Its directory, with room for 6 containers. */
+static uint64_t dir_keys[6], dir_firsts[6], dir_counts[6], dir_used;
+
+/* What a call that writes the directory gave: the containers in use, each with its first row and its rows. */
+static void tell_directory(uint64_t number)
+{
+    if (number != GEMLAB_DONE) {
+        printf(" refused %" PRIu64 ", %" PRIu64 " rows and %" PRIu64 " places in use\n", number, used, dir_used);
+        return;
+    }
+    for (uint64_t i = 0; i < dir_used; i++) {
+        printf(" %" PRIu64 ":%" PRIu64 "+%" PRIu64, dir_keys[i], dir_firsts[i], dir_counts[i]);
+    }
+    printf(" (%" PRIu64 ")\n", dir_used);
+}
+
+/* The directory of the library, of which the first `room` places are lent. */
+static void build_directory(size_t room)
+{
+    uint64_t number = gemlab_directory_build(sheet_numbers, GEMLAB_SHEET_NUMBERS, sheet_floats, GEMLAB_SHEET_FLOATS,
+                                             keys, 8, ids, 8, xs, 8, ys, 8, zs, 8, used,
+                                             dir_keys, room, dir_firsts, room, dir_counts, room, &dir_used);
+
+    printf("directory in %zu places:", room);
+    tell_directory(number);
+}
+
+/* Puts a mark into the library and its directory. */
+static void file(uint64_t id, double x, double y)
+{
+    const double at[2] = {x, y};
+    uint64_t number = gemlab_directory_insert(sheet_numbers, GEMLAB_SHEET_NUMBERS, sheet_floats, GEMLAB_SHEET_FLOATS,
+                                              keys, 8, ids, 8, xs, 8, ys, 8, zs, 8, &used,
+                                              dir_keys, 6, dir_firsts, 6, dir_counts, 6, &dir_used, id, at, 2);
+
+    printf("mark %" PRIu64 " at (%g,%g), directory:", id, x, y);
+    tell_directory(number);
+}
+
+/* Strikes a mark off the library and its directory. */
+static void unfile(uint64_t id)
+{
+    uint64_t removed = 0;
+    uint64_t number = gemlab_directory_strike(sheet_numbers, GEMLAB_SHEET_NUMBERS, sheet_floats, GEMLAB_SHEET_FLOATS,
+                                              keys, 8, ids, 8, xs, 8, ys, 8, zs, 8, &used,
+                                              dir_keys, 6, dir_firsts, 6, dir_counts, 6, &dir_used, id, &removed);
+
+    printf("mark %" PRIu64 " struck off, %" PRIu64 " rows went, directory:", id, removed);
+    tell_directory(number);
+}
+
+/* Where the directory has a container. */
+static void look_up(uint64_t key)
+{
+    uint64_t found = 0, place = 9, reads = 9;
+    uint64_t number = gemlab_directory_look_up(sheet_numbers, GEMLAB_SHEET_NUMBERS, sheet_floats, GEMLAB_SHEET_FLOATS,
+                                               keys, 8, ids, 8, xs, 8, ys, 8, zs, 8, used,
+                                               dir_keys, 6, dir_firsts, 6, dir_counts, 6, dir_used, key, &found, &place, &reads);
+
+    if (number != GEMLAB_DONE) {
+        printf("container %" PRIu64 ": refused %" PRIu64 "\n", key, number);
+    } else if (found) {
+        printf("container %" PRIu64 ": place %" PRIu64 ", %" PRIu64 " read\n", key, place, reads);
+    } else {
+        printf("container %" PRIu64 ": no place, %" PRIu64 " read, place still %" PRIu64 "\n", key, reads, place);
+    }
+}
+
+/* The mark at a position, through the directory, and the marks with its y. */
+static void look(double x, double y)
+{
+    const double at[2] = {x, y}, ahead[2] = {x + 1, y};
+    uint64_t out[4] = {0}, found = 0, id = 0, count = 0;
+    uint64_t number = gemlab_directory_search(sheet_numbers, GEMLAB_SHEET_NUMBERS, sheet_floats, GEMLAB_SHEET_FLOATS,
+                                              keys, 8, ids, 8, xs, 8, ys, 8, zs, 8, used,
+                                              dir_keys, 6, dir_firsts, 6, dir_counts, 6, dir_used, at, 2, &found, &id);
+    uint64_t refusal = gemlab_directory_list(sheet_numbers, GEMLAB_SHEET_NUMBERS, sheet_floats, GEMLAB_SHEET_FLOATS,
+                                             keys, 8, ids, 8, xs, 8, ys, 8, zs, 8, used,
+                                             dir_keys, 6, dir_firsts, 6, dir_counts, 6, dir_used, GEMLAB_LINE, at, 2, ahead, 2, 0,
+                                             GEMLAB_EVERYTHING, 0, 0, 0, out, 4, &count);
+
+    printf("through the directory, at (%g,%g):", x, y);
+    if (number != GEMLAB_DONE || refusal != GEMLAB_DONE) {
+        printf(" refused %" PRIu64 " and %" PRIu64 "\n", number, refusal);
+        return;
+    }
+    if (found) {
+        printf(" mark %" PRIu64 ", with y = %g:", id, y);
+    } else {
+        printf(" nothing, with y = %g:", y);
+    }
+    for (uint64_t i = 0; i < count; i++) {
+        printf(" %" PRIu64, out[i]);
+    }
+    printf(" (%" PRIu64 ")\n", count);
+}
+
+static void directories(void)
+{
+    used = 0;
+    dir_used = 9;
+    look_up(10);
+    build_directory(6);
+    look_up(10);
+    file(7, 2, 1);
+    file(3, 2.5, 1.5);
+    file(5, 6.5, 1.5);
+    look_up(10);
+    look_up(11);
+    look_up(UINT64_MAX);
+    look(2, 1);
+    look(2.5, 1.5);
+    look(4.5, 1.5);
+    /* the rows are as they are without a directory */
+    find(2.5, 1.5);
+    build_directory(4);
+    file(8, 4.5, 3.5);
+    file(9, 0.5, 3.5); /* no place is free */
+    file(8, 9, 1);
+    unfile(7);
+    unfile(7);
+    /* the library changes and its directory does not */
+    put(9, 0.5, 3.5, 8);
+    look(2.5, 1.5);
+    file(9, 0.5, 3.5);
+    unfile(3);
+    look_up(10);
+    build_directory(6);
+    dir_counts[1]++;
+    look(2.5, 1.5);
+    dir_used = 7;
+    look(2.5, 1.5);
+    build_directory(6);
+    look(2.5, 1.5);
+}
+
 /* A full library, whose rows are written here and not by insertion: every mark lies at (1000,0), each in a container of its own. */
 #define FULL 65536
 static uint64_t full_keys[FULL], full_ids[FULL], full_list[FULL];
 static double full_xs[FULL], full_ys[FULL], full_zs[FULL];
+static uint64_t full_dir_keys[FULL], full_dir_firsts[FULL], full_dir_counts[FULL], full_dir_used;
 
 static void full(void)
 {
     const double low[2] = {0, 0}, high[2] = {8, 4};
-    uint64_t count = 0, broken = 7, row = 8, visited = 9, refusal;
+    uint64_t count = 0, broken = 7, row = 8, visited = 9, found = 0, place = 0, reads = 0, refusal;
 
     gemlab_grid_search_new(low, 2, high, 2, 1, 512, 0, 0, 1, 0,
                            sheet_numbers, GEMLAB_SHEET_NUMBERS, sheet_floats, GEMLAB_SHEET_FLOATS);
@@ -281,6 +418,14 @@ static void full(void)
                             GEMLAB_CIRCLE, low, 2, low, 2, 1000, GEMLAB_EVERYTHING, 0, 0, 0,
                             full_list, FULL, &count);
     printf("marks in a full library: %" PRIu64 ", from %" PRIu64 " to %" PRIu64 "\n", count, full_list[0], full_list[FULL - 1]);
+    gemlab_directory_build(sheet_numbers, GEMLAB_SHEET_NUMBERS, sheet_floats, GEMLAB_SHEET_FLOATS,
+                           full_keys, FULL, full_ids, FULL, full_xs, FULL, full_ys, FULL, full_zs, FULL, FULL,
+                           full_dir_keys, FULL, full_dir_firsts, FULL, full_dir_counts, FULL, &full_dir_used);
+    gemlab_directory_look_up(sheet_numbers, GEMLAB_SHEET_NUMBERS, sheet_floats, GEMLAB_SHEET_FLOATS,
+                             full_keys, FULL, full_ids, FULL, full_xs, FULL, full_ys, FULL, full_zs, FULL, FULL,
+                             full_dir_keys, FULL, full_dir_firsts, FULL, full_dir_counts, FULL, full_dir_used,
+                             FULL - 1, &found, &place, &reads);
+    printf("its directory: %" PRIu64 " places, the last container at %" PRIu64 ", %" PRIu64 " read\n", full_dir_used, place, reads);
 }
 
 /* Two triangles of a square, and a small one beside it. */
@@ -409,6 +554,7 @@ int main(void)
     sheets();
     libraries();
     lists();
+    directories();
     full();
     point_lists();
     cells();

@@ -19,12 +19,13 @@
 #define TETS (6 * CUBES * CUBES * CUBES)
 #define NODES ((CUBES + 1) * (CUBES + 1) * (CUBES + 1))
 
-/* What the threads read together: sheets in 2D and 3D, a full library on each, meshes of triangles and of tetrahedra, each with
-   its index, and the longest point list with its text. */
+/* What the threads read together: sheets in 2D and 3D, a full library on each with its directory, meshes of triangles and of
+   tetrahedra, each with its index, and the longest point list with its text. */
 static uint64_t numbers[2][GEMLAB_SHEET_NUMBERS];
 static double floats[2][GEMLAB_SHEET_FLOATS];
 static uint64_t keys[MOST], ids[MOST];
 static double xs[MOST], ys[MOST], zs[MOST];
+static uint64_t dir_keys[MOST], dir_firsts[MOST], dir_counts[MOST];
 static double flat_coords[2 * POINTS], solid_coords[3 * NODES];
 static uint32_t flat_corners[3 * CELLS], solid_corners[4 * TETS];
 static const struct mesh {
@@ -48,7 +49,8 @@ struct own {
     double xs[MOST], ys[MOST], zs[MOST];
     uint64_t numbers[GEMLAB_SHEET_NUMBERS];
     double floats[GEMLAB_SHEET_FLOATS];
-    uint64_t used, found, id, count, removed, broken, row, visited, line, length, returned;
+    uint64_t dir_keys[MOST], dir_firsts[MOST], dir_counts[MOST];
+    uint64_t used, found, id, count, removed, broken, row, visited, line, length, dir_used, place, reads, returned;
     double distance, zeta[4];
     uint8_t text[MOST * GEMLAB_POINT_BYTES];
 };
@@ -220,6 +222,85 @@ static void list_many_3d(struct own *o)
     list_on(o, 3, GEMLAB_CYLINDER, low, axis, 1000, MOST);
 }
 
+/* The library's lists that the threads read together, and a thread's own; the same of a directory; and a sheet. */
+#define SHEET(dim) numbers[(dim) - 2], GEMLAB_SHEET_NUMBERS, floats[(dim) - 2], GEMLAB_SHEET_FLOATS
+#define ROWS keys, MOST, ids, MOST, xs, MOST, ys, MOST, zs, MOST
+#define OWN_ROWS(o) (o)->keys, MOST, (o)->ids, MOST, (o)->xs, MOST, (o)->ys, MOST, (o)->zs, MOST
+#define DIRECTORY dir_keys, MOST, dir_firsts, MOST, dir_counts, MOST
+#define OWN_DIRECTORY(o) (o)->dir_keys, MOST, (o)->dir_firsts, MOST, (o)->dir_counts, MOST
+
+static void directory(struct own *o)
+{
+    o->returned = gemlab_directory_build(SHEET(3), ROWS, MOST, OWN_DIRECTORY(o), &o->dir_used);
+}
+
+/* The last of as many places as there can be. */
+static void look_up(struct own *o)
+{
+    o->returned = gemlab_directory_look_up(SHEET(3), ROWS, MOST, DIRECTORY, MOST, MOST - 1, &o->found, &o->place, &o->reads);
+}
+
+/* The library and its directory, with so many rows in use, to be changed. */
+static void copy_both(struct own *o, uint64_t rows)
+{
+    copy(o);
+    memcpy(o->dir_keys, dir_keys, sizeof dir_keys);
+    memcpy(o->dir_firsts, dir_firsts, sizeof dir_firsts);
+    memcpy(o->dir_counts, dir_counts, sizeof dir_counts);
+    o->used = rows;
+    o->dir_used = rows;
+}
+
+/* A mark where the last four containers meet, two of which had no row. */
+static void insert_filed(struct own *o)
+{
+    static const double at[2] = {7.96875, 7.96875};
+
+    copy_both(o, MOST - 4);
+    o->returned = gemlab_directory_insert(SHEET(2), OWN_ROWS(o), &o->used, OWN_DIRECTORY(o), &o->dir_used, UINT64_MAX, at, 2);
+}
+
+/* As strike_on. */
+static void strike_filed(struct own *o)
+{
+    size_t i;
+
+    copy_both(o, MOST);
+    for (i = 1; i < MOST; i += 2) {
+        o->ids[i] = 8;
+    }
+    o->returned = gemlab_directory_strike(SHEET(3), OWN_ROWS(o), &o->used, OWN_DIRECTORY(o), &o->dir_used, 8, &o->removed);
+}
+
+static void search_filed(struct own *o)
+{
+    static const double at[3] = {4.1, 4.1, 4.1};
+
+    o->returned = gemlab_directory_search(SHEET(3), ROWS, MOST, DIRECTORY, MOST, at, 3, &o->found, &o->id);
+}
+
+/* As list_on: a container has one row, so that as many places as rows are in use. */
+static void list_filed_on(struct own *o, uint64_t place, const double *a, const double *b, double number, uint64_t rows)
+{
+    o->returned = gemlab_directory_list(SHEET(3), ROWS, rows, DIRECTORY, rows, place, a, 3, b, 3, number, GEMLAB_EVERYTHING, 0, 0,
+                                        0, o->list, MOST, &o->count);
+}
+
+static void list_line_filed(struct own *o)
+{
+    list_filed_on(o, GEMLAB_LINE, low, far_off, 0, MOST);
+}
+
+static void list_few_filed(struct own *o)
+{
+    list_filed_on(o, GEMLAB_CYLINDER, low, axis, 1000, 1024);
+}
+
+static void list_many_filed(struct own *o)
+{
+    list_filed_on(o, GEMLAB_CYLINDER, low, axis, 1000, MOST);
+}
+
 static void import_text(struct own *o)
 {
     o->returned = gemlab_survey_import(point_text, (size_t)point_length, o->ids, MOST, o->xs, MOST, o->ys, MOST, o->zs, MOST,
@@ -305,6 +386,14 @@ static const struct call {
     {"a listing of 1,024 rows in 3D", list_few_3d, GEMLAB_STACK},
     {"a listing of 65,536 rows in 2D", list_many, GEMLAB_STACK_LISTING},
     {"a listing of 65,536 rows in 3D", list_many_3d, GEMLAB_STACK_LISTING},
+    {"a directory of 65,536 places", directory, GEMLAB_STACK},
+    {"a look-up among 65,536 places", look_up, GEMLAB_STACK},
+    {"an insertion with a directory", insert_filed, GEMLAB_STACK},
+    {"a striking with a directory", strike_filed, GEMLAB_STACK},
+    {"a search with a directory", search_filed, GEMLAB_STACK},
+    {"a listing on a line with a directory", list_line_filed, GEMLAB_STACK},
+    {"a listing of 1,024 rows with a directory", list_few_filed, GEMLAB_STACK},
+    {"a listing of 65,536 rows with a directory", list_many_filed, GEMLAB_STACK_LISTING},
     {"an import of 65,536 lines", import_text, GEMLAB_STACK},
     {"an import that tells a line", import_bad, GEMLAB_STACK},
     {"an export of 65,536 marks", export_marks, GEMLAB_STACK},
@@ -384,9 +473,10 @@ static int tried(const struct call *call, int measure)
         free_area(&jobs[i].stack);
     }
     printf("%s: returned %" PRIu64 ", found %" PRIu64 ", listed %" PRIu64 ", removed %" PRIu64 ", visited %" PRIu64
-           ", used %" PRIu64 ", line %" PRIu64 ", length %" PRIu64 ", on %d threads with %zu bytes left", call->name,
-           owns[0]->returned, owns[0]->found, owns[0]->count, owns[0]->removed, owns[0]->visited, owns[0]->used, owns[0]->line,
-           owns[0]->length, THREADS, call->stack);
+           ", used %" PRIu64 ", line %" PRIu64 ", length %" PRIu64 ", places %" PRIu64 ", read %" PRIu64
+           ", on %d threads with %zu bytes left", call->name, owns[0]->returned, owns[0]->found, owns[0]->count, owns[0]->removed,
+           owns[0]->visited, owns[0]->used, owns[0]->line, owns[0]->length, owns[0]->dir_used, owns[0]->reads, THREADS,
+           call->stack);
     if (measure) {
         printf(", took %zu", most);
     }
@@ -452,6 +542,9 @@ static void prepare(void)
         keys[i] = i;
         ids[i] = 7;
         xs[i] = 1000;
+        dir_keys[i] = i;
+        dir_firsts[i] = i;
+        dir_counts[i] = 1;
     }
     prepare_meshes();
     /* every line is as long as it can be */

@@ -39,10 +39,11 @@
  * tolerance. Inserted again elsewhere, it takes as many again; struck off, it frees them all. A
  * cell takes at most GEMLAB_CELL_ROWS(ndim) rows, 4 in 2D and 8 in 3D. Large cells are at most the
  * part large_pct of the cells, rounded up; a list as long as the cells is always enough. A listing
- * has at most as many ids as rows are in use. A point list has as many marks as lines, and a mark
- * takes at most GEMLAB_POINT_BYTES bytes, 61, in an exported text. Lists of these lengths are never
- * refused for want of room (12, 14); a list of rows or of marks has at most 65,536 entries (24). A
- * text may have any length.
+ * has at most as many ids as rows are in use, and a directory at most as many places as rows are in
+ * use after a call, and as the sheet has containers. A point list has as many marks as lines, and a
+ * mark takes at most GEMLAB_POINT_BYTES bytes, 61, in an exported text. Lists of these lengths are
+ * never refused for want of room (12, 14); a list of rows, of places or of marks has at most 65,536
+ * entries (24). A text may have any length.
  *
  *
  * Threads and stack
@@ -102,8 +103,9 @@ extern "C" {
 #define GEMLAB_BORDER 9         /* the border is negative */
 #define GEMLAB_SIDE 10          /* the side of a container is at most twice the tolerance */
 #define GEMLAB_OUTSIDE 11       /* the position is outside the sheet or the index */
-#define GEMLAB_FULL 12          /* the call needs more new rows, or large-cell entries, than are
-                                   free, or a text has more marks than its lists have entries */
+#define GEMLAB_FULL 12          /* the call needs more new rows, places of a directory or
+                                   large-cell entries than are free, or a text has more marks
+                                   than its lists have entries */
 #define GEMLAB_DAMAGED 13       /* what was handed in is damaged: a sheet that is not the one its
                                    settings give, rows out of order, lists of unequal length, a
                                    count above its list, and the like */
@@ -121,13 +123,14 @@ extern "C" {
 #define GEMLAB_PERCENTAGE 21    /* the percentage is outside 0 to 1 */
 #define GEMLAB_NO_EXTENT 22     /* no extent, or 0 divisions, on some axis */
 #define GEMLAB_ALL_LARGE 23     /* every cell is large, and the percentage keeps them so */
-#define GEMLAB_TOO_LONG 24      /* a lent list holds more than 65,536 points, cells, rows or
-                                   marks */
+#define GEMLAB_TOO_LONG 24      /* a lent list holds more than 65,536 points, cells, rows,
+                                   places or marks */
 #define GEMLAB_COORDINATES 25   /* the coordinate list is not of length 4 */
 #define GEMLAB_NO_ROW 26        /* the id that is to be struck off has no row */
 #define GEMLAB_MALFORMED 27     /* a line of the text is malformed */
 #define GEMLAB_NO_DECIMAL 28    /* a coordinate to export is not, bit for bit, the value of any
                                    decimal that an import takes */
+#define GEMLAB_MISMATCH 29      /* the used places of a directory do not match the rows */
 
 /*
  * The most stack that a call takes below its caller's frame, in bytes: 8 KiB, and 144 KiB for a
@@ -304,8 +307,9 @@ uint64_t gemlab_grid_search_strike(const uint64_t *numbers, size_t numbers_len,
  * The lowest bad row of the library: *broken becomes 1 and *row its number, counted from 0, or
  * *broken becomes 0 and *row stays. The rows in use are visited in order and once each, up to that
  * row or to the last, and *visited becomes how many they were: *row + 1, or used. Every other call
- * on a library says 13 exactly where this one says 13 or tells a row. gemlab has no such call: it
- * keeps its rows itself.
+ * on a library alone says 13 exactly where this one says 13 or tells a row; one that takes a
+ * directory judges that one's lists and count with the library's. gemlab has no such call: it keeps
+ * its rows itself.
  * Refusals: 24, 13 (a damaged sheet, lists of unequal length, a count above them).
  */
 uint64_t gemlab_grid_search_check(const uint64_t *numbers, size_t numbers_len,
@@ -392,6 +396,170 @@ uint64_t gemlab_grid_search_list(const uint64_t *numbers, size_t numbers_len,
                                  uint64_t filter, uint64_t axis, double low, double high,
                                  uint64_t *list, size_t list_len,
                                  uint64_t *count);
+
+/*
+ * A directory of containers.
+ *
+ * A directory says where in a library's rows each container stands, so that a search or a listing
+ * goes to the rows of a container without looking for them. It has a place for each container that
+ * has a row, ascending by key, in three lists of one length, and the count of the places in use,
+ * which stand in front:
+ *
+ *     dir_keys    the container's key
+ *     dir_firsts  its first row, counted from 0
+ *     dir_counts  how many rows it has, one or more
+ *
+ * The length of these lists need not be that of the rows; it is at most 65,536. Entries past the
+ * count may have any content and are never read; a build, an insertion or a striking that is not
+ * refused sets every one of them to 0, to the end of the lists.
+ *
+ * gemlab_directory_build writes the directory of a library. From then on a library that has one is
+ * changed by gemlab_directory_insert and gemlab_directory_strike, which bring it up to date: it is
+ * then the one that a build would write. After a change by gemlab_grid_search_insert or
+ * gemlab_grid_search_strike it has to be built anew. The directory of an empty library has no place
+ * in use.
+ *
+ * Each of these calls but the build looks at the library and at the directory first: 24 where one
+ * of the eight lists is longer than 65,536; 13 where the sheet or the library is damaged, the
+ * directory's lists differ in length or its count is above that; 29 where its used places are not
+ * exactly those that a build would write. The answers are those of the calls without a directory,
+ * and the other refusals follow in their order. gemlab has no directory.
+ */
+
+/*
+ * The directory of the library's rows, into the three lists. *dir_used becomes how many places are
+ * in use; what it held is not read. Every entry past them, to the end of each list, becomes 0. The
+ * rows are only read.
+ * Refusals: 24, 13 (of the library, or the directory's lists differ in length), 12 (more containers
+ * have rows than the directory has places).
+ */
+uint64_t gemlab_directory_build(const uint64_t *numbers, size_t numbers_len,
+                                const double *floats, size_t floats_len,
+                                const uint64_t *keys, size_t keys_len,
+                                const uint64_t *ids, size_t ids_len,
+                                const double *xs, size_t xs_len,
+                                const double *ys, size_t ys_len,
+                                const double *zs, size_t zs_len,
+                                uint64_t used,
+                                uint64_t *dir_keys, size_t dir_keys_len,
+                                uint64_t *dir_firsts, size_t dir_firsts_len,
+                                uint64_t *dir_counts, size_t dir_counts_len,
+                                uint64_t *dir_used);
+
+/*
+ * The place of a container in the directory: *found becomes 1 and *place its number, counted from
+ * 0, or *found becomes 0 and *place stays, where no row has the key; a key of no container is one
+ * of these. The rows of the container are then the dir_counts[*place] rows from
+ * dir_firsts[*place] on. Of the places left the middle one is read, of two the lower, until the key
+ * is found or no place is left; *reads becomes how many were read, 17 at most.
+ * Refusals: 24, 13, 29.
+ */
+uint64_t gemlab_directory_look_up(const uint64_t *numbers, size_t numbers_len,
+                                  const double *floats, size_t floats_len,
+                                  const uint64_t *keys, size_t keys_len,
+                                  const uint64_t *ids, size_t ids_len,
+                                  const double *xs, size_t xs_len,
+                                  const double *ys, size_t ys_len,
+                                  const double *zs, size_t zs_len,
+                                  uint64_t used,
+                                  const uint64_t *dir_keys, size_t dir_keys_len,
+                                  const uint64_t *dir_firsts, size_t dir_firsts_len,
+                                  const uint64_t *dir_counts, size_t dir_counts_len,
+                                  uint64_t dir_used,
+                                  uint64_t key,
+                                  uint64_t *found,
+                                  uint64_t *place,
+                                  uint64_t *reads);
+
+/*
+ * Puts the mark id at x into the library, as gemlab_grid_search_insert does, and brings the
+ * directory up to date: *used and *dir_used become the new counts, and every entry of the directory
+ * past its places becomes 0. The rows past the count stay as they do there.
+ * Refusals: 24, 13, 29, 2, 3, 11, 17, 12 (the rows or the directory's places are too few for what
+ * they would hold after the call; a call that needs no new one is not refused).
+ */
+uint64_t gemlab_directory_insert(const uint64_t *numbers, size_t numbers_len,
+                                 const double *floats, size_t floats_len,
+                                 uint64_t *keys, size_t keys_len,
+                                 uint64_t *ids, size_t ids_len,
+                                 double *xs, size_t xs_len,
+                                 double *ys, size_t ys_len,
+                                 double *zs, size_t zs_len,
+                                 uint64_t *used,
+                                 uint64_t *dir_keys, size_t dir_keys_len,
+                                 uint64_t *dir_firsts, size_t dir_firsts_len,
+                                 uint64_t *dir_counts, size_t dir_counts_len,
+                                 uint64_t *dir_used,
+                                 uint64_t id,
+                                 const double *x, size_t x_len);
+
+/*
+ * Strikes the mark id off, as gemlab_grid_search_strike does, and brings the directory up to date:
+ * the place of a container that has no row left goes. *used and *dir_used become the new counts,
+ * *removed how many rows went, and every entry of the rows and of the directory past their counts,
+ * to the end of each of the eight lists, becomes 0 (+0).
+ * Refusals: 24, 13, 29, 26 (the mark has no row).
+ */
+uint64_t gemlab_directory_strike(const uint64_t *numbers, size_t numbers_len,
+                                 const double *floats, size_t floats_len,
+                                 uint64_t *keys, size_t keys_len,
+                                 uint64_t *ids, size_t ids_len,
+                                 double *xs, size_t xs_len,
+                                 double *ys, size_t ys_len,
+                                 double *zs, size_t zs_len,
+                                 uint64_t *used,
+                                 uint64_t *dir_keys, size_t dir_keys_len,
+                                 uint64_t *dir_firsts, size_t dir_firsts_len,
+                                 uint64_t *dir_counts, size_t dir_counts_len,
+                                 uint64_t *dir_used,
+                                 uint64_t id,
+                                 uint64_t *removed);
+
+/*
+ * The mark at x, as gemlab_grid_search_search finds it. Past the checks, which go over the rows and
+ * the places once, only the rows of the container of x are read.
+ * Refusals: 24, 13, 29, 2, 3, 11, 17.
+ */
+uint64_t gemlab_directory_search(const uint64_t *numbers, size_t numbers_len,
+                                 const double *floats, size_t floats_len,
+                                 const uint64_t *keys, size_t keys_len,
+                                 const uint64_t *ids, size_t ids_len,
+                                 const double *xs, size_t xs_len,
+                                 const double *ys, size_t ys_len,
+                                 const double *zs, size_t zs_len,
+                                 uint64_t used,
+                                 const uint64_t *dir_keys, size_t dir_keys_len,
+                                 const uint64_t *dir_firsts, size_t dir_firsts_len,
+                                 const uint64_t *dir_counts, size_t dir_counts_len,
+                                 uint64_t dir_used,
+                                 const double *x, size_t x_len,
+                                 uint64_t *found,
+                                 uint64_t *id);
+
+/*
+ * The marks on a place of the plane or the space, as gemlab_grid_search_list lists them: place here
+ * is what it is there, and no place of the directory.
+ * Refusals: 24, 13, 29, 16, 2, 3, 15 (where a row is in use), 14.
+ */
+uint64_t gemlab_directory_list(const uint64_t *numbers, size_t numbers_len,
+                               const double *floats, size_t floats_len,
+                               const uint64_t *keys, size_t keys_len,
+                               const uint64_t *ids, size_t ids_len,
+                               const double *xs, size_t xs_len,
+                               const double *ys, size_t ys_len,
+                               const double *zs, size_t zs_len,
+                               uint64_t used,
+                               const uint64_t *dir_keys, size_t dir_keys_len,
+                               const uint64_t *dir_firsts, size_t dir_firsts_len,
+                               const uint64_t *dir_counts, size_t dir_counts_len,
+                               uint64_t dir_used,
+                               uint64_t place,
+                               const double *a, size_t a_len,
+                               const double *b, size_t b_len,
+                               double number,
+                               uint64_t filter, uint64_t axis, double low, double high,
+                               uint64_t *list, size_t list_len,
+                               uint64_t *count);
 
 /*
  * Point lists.

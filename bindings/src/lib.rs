@@ -1,9 +1,9 @@
 //! Survey marks and mesh cells found by position: safe Rust over the proved library's C interface.
 //!
-//! A [`Sheet`] is a grid of containers, a [`Library`] the marks that are filed in it, a [`CellIndex`] the cells of a
-//! [`Mesh`] filed in a grid of their own; [`survey`] reads and writes the point lists of surveyors. Each method is one call,
-//! and each call answers or is turned away with a [`Refusal`], which leaves everything as it was. What each call means is
-//! written in `include/gemlab.h`, and proved.
+//! A [`Sheet`] is a grid of containers, a [`Library`] the marks that are filed in it, which may have a [`Directory`] of the
+//! containers in use, a [`CellIndex`] the cells of a [`Mesh`] filed in a grid of their own; [`survey`] reads and writes the
+//! point lists of surveyors. Each method is one call, and each call answers or is turned away with a [`Refusal`], which
+//! leaves everything as it was. What each call means is written in `include/gemlab.h`, and proved.
 //!
 //! The library is `libcapi.a`, which `rt staticlib capi` writes into `target/staticlib`; the environment variable
 //! `HRBOTAJ_LIB` names another folder.
@@ -76,6 +76,7 @@
 
 mod c;
 mod cells;
+mod directory;
 mod distances;
 mod library;
 mod refusal;
@@ -89,10 +90,11 @@ pub const STACK: usize = 8192;
 /// The most stack that a listing takes, in bytes.
 pub const STACK_LISTING: usize = 147456;
 
-/// The most rows that a call takes.
+/// The most rows, and the most places of a directory, that a call takes.
 pub const ROWS: usize = 65536;
 
 pub use cells::{CellIndex, Mesh};
+pub use directory::{Directory, LookUp};
 pub use distances::{point_circle_distance, point_cylinder_distance, point_line_distance, point_point_distance};
 pub use library::{Check, Filter, Library, Place};
 pub use refusal::Refusal;

@@ -1,10 +1,14 @@
 use crate::c;
-use crate::{Refusal, Sheet, ROWS};
+use crate::{Directory, Refusal, Sheet, ROWS};
 
 /// Marks filed in the containers of a sheet: a row for each container and id.
 ///
 /// The rows are plain data of the caller's: every call checks them (24, 13), and works in the space that they have.
 /// [`Library::check`] tells which row is bad.
+///
+/// A library may have a [`Directory`], which says where the rows of each container stand: made by
+/// [`Library::with_directory`] or [`Library::build_directory`], kept up to date by insertions and strikings, and checked by
+/// every call (24, 13, 29). The answers are the same with it and without.
 #[derive(Clone, Debug, Default, PartialEq)]
 pub struct Library {
     /// The container of each row; the rows in use are in strict order of key and then id.
@@ -19,6 +23,8 @@ pub struct Library {
     pub zs: Vec<f64>,
     /// How many rows are in use.
     pub used: u64,
+    /// Where the rows of each container stand. Set to none, the library is one without a directory.
+    pub directory: Option<Directory>,
 }
 
 /// Where marks are listed.
@@ -102,6 +108,68 @@ macro_rules! on_lists {
         )
     };
 }
+pub(crate) use on_lists;
+
+/// A call of C on a library that has a directory: the pointers and the count of each, and what it takes after them.
+macro_rules! on_both {
+    (
+        $call:ident, $sheet:expr, $library:expr, ($rows:ident, $used:expr), $directory:expr, ($places:ident, $places_used:expr)
+        $(, $rest:expr)* $(,)?
+    ) => {
+        on_lists!(
+            $call,
+            $sheet,
+            $library,
+            $rows,
+            $used,
+            $directory.keys.$places(),
+            $directory.keys.len(),
+            $directory.firsts.$places(),
+            $directory.firsts.len(),
+            $directory.counts.$places(),
+            $directory.counts.len(),
+            $places_used
+            $(, $rest)*
+        )
+    };
+}
+pub(crate) use on_both;
+
+/// A call of C that changes a library, or its namesake where the library has a directory.
+macro_rules! changing {
+    ($call:ident, $namesake:ident, $sheet:expr, $library:expr, $($rest:expr),+ $(,)?) => {
+        match &mut $library.directory {
+            None => on_lists!($call, $sheet, $library, as_mut_ptr, &mut $library.used, $($rest),+),
+            Some(directory) => on_both!(
+                $namesake,
+                $sheet,
+                $library,
+                (as_mut_ptr, &mut $library.used),
+                directory,
+                (as_mut_ptr, &mut directory.used),
+                $($rest),+
+            ),
+        }
+    };
+}
+
+/// A call of C that only reads a library, or its namesake where the library has a directory.
+macro_rules! asking {
+    ($call:ident, $namesake:ident, $sheet:expr, $library:expr, $($rest:expr),+ $(,)?) => {
+        match &$library.directory {
+            None => on_lists!($call, $sheet, $library, as_ptr, $library.used, $($rest),+),
+            Some(directory) => on_both!(
+                $namesake,
+                $sheet,
+                $library,
+                (as_ptr, $library.used),
+                directory,
+                (as_ptr, directory.used),
+                $($rest),+
+            ),
+        }
+    };
+}
 
 impl Library {
     /// A library with space for so many rows, none in use.
@@ -117,6 +185,7 @@ impl Library {
             ys: vec![0.0; rows],
             zs: vec![0.0; rows],
             used: 0,
+            directory: None,
         }
     }
 
@@ -129,12 +198,12 @@ impl Library {
     /// Files the mark `id` at `x` in its container and in those that its halo touches. Where it has a row, the row takes
     /// the new coordinates; its rows elsewhere stay.
     ///
-    /// Refusals: 24, 13, 2, 3, 11, 17, 12.
+    /// Refusals: 24, 13, 29 with a directory, 2, 3, 11, 17, 12 (of the rows, or of the directory's places).
     pub fn insert(&mut self, sheet: &Sheet, id: u64, x: &[f64]) -> Result<(), Refusal> {
         // SAFETY: each list is a slice's, an array's or a vector's pointer and length; what is written are fields of
-        // `self`, which is borrowed alone: five vectors with memory of their own, and the count.
+        // `self`, which is borrowed alone: vectors with memory of their own, and counts.
         let number = unsafe {
-            on_lists!(gemlab_grid_search_insert, sheet, self, as_mut_ptr, &mut self.used, id, x.as_ptr(), x.len())
+            changing!(gemlab_grid_search_insert, gemlab_directory_insert, sheet, self, id, x.as_ptr(), x.len())
         };
         Refusal::judge(number)
     }
@@ -142,20 +211,21 @@ impl Library {
     /// Strikes the mark `id` off: every row that it has goes, and their number is given. The rows of other marks close up in
     /// their order, every entry past them becomes 0, and the room is free for later insertions.
     ///
-    /// Refusals: 24, 13, 26.
+    /// Refusals: 24, 13, 29 with a directory, 26.
     pub fn strike(&mut self, sheet: &Sheet, id: u64) -> Result<u64, Refusal> {
         let mut removed = 0;
         // SAFETY: each list is an array's or a vector's pointer and length; what is written are fields of `self`, which is
-        // borrowed alone: five vectors with memory of their own, and the count; and a local.
+        // borrowed alone: vectors with memory of their own, and counts; and a local.
         let number =
-            unsafe { on_lists!(gemlab_grid_search_strike, sheet, self, as_mut_ptr, &mut self.used, id, &mut removed) };
+            unsafe { changing!(gemlab_grid_search_strike, gemlab_directory_strike, sheet, self, id, &mut removed) };
         Refusal::judge(number).map(|()| removed)
     }
 
     /// The lowest bad row, by one walk over the rows in use that ends there. A row is bad where its key is not below the
     /// number of containers, a coordinate is not finite or past its limit, in 2D the third one is not +0, or the row is
     /// not above the one before it by key and then id. Every other call is refused with 13 exactly where this one is
-    /// refused with 13 or tells a row.
+    /// refused with 13 or tells a row, or the lists or the count of a directory are damaged, which this one does not look
+    /// at.
     ///
     /// Refusals: 24, 13 (a damaged sheet, lists of unequal length, a count above them).
     pub fn check(&self, sheet: &Sheet) -> Result<Check, Refusal> {
@@ -171,17 +241,16 @@ impl Library {
     /// least distance as [`point_point_distance`](crate::point_point_distance) computes it, and the lowest id among equal
     /// ones.
     ///
-    /// Refusals: 24, 13, 2, 3, 11, 17.
+    /// Refusals: 24, 13, 29 with a directory, 2, 3, 11, 17.
     pub fn search(&self, sheet: &Sheet, x: &[f64]) -> Result<Option<u64>, Refusal> {
         let (mut found, mut id) = (0, 0);
         // SAFETY: each list is a slice's, an array's or a vector's pointer and length; what is written are two locals.
         let number = unsafe {
-            on_lists!(
+            asking!(
                 gemlab_grid_search_search,
+                gemlab_directory_search,
                 sheet,
                 self,
-                as_ptr,
-                self.used,
                 x.as_ptr(),
                 x.len(),
                 &mut found,
@@ -193,7 +262,7 @@ impl Library {
 
     /// The ids of the marks on a place, ascending, once each.
     ///
-    /// Refusals: 24, 13, 16, 2, 3, 15.
+    /// Refusals: 24, 13, 29 with a directory, 16, 2, 3, 15.
     pub fn list(&self, sheet: &Sheet, place: Place, filter: Filter) -> Result<Vec<u64>, Refusal> {
         // a listing has at most one id for each row in use
         let rows = usize::try_from(self.used).map_or(self.ids.len(), |used| used.min(self.ids.len()));
@@ -205,7 +274,7 @@ impl Library {
 
     /// The same into a list of the caller's, and how many ids there are; the list beyond them is untouched.
     ///
-    /// Refusals: 24, 13, 16, 2, 3, 15, 14.
+    /// Refusals: 24, 13, 29 with a directory, 16, 2, 3, 15, 14.
     pub fn list_into(&self, sheet: &Sheet, place: Place, filter: Filter, list: &mut [u64]) -> Result<usize, Refusal> {
         let (place, a, b, number): (u64, &[f64], &[f64], f64) = match place {
             Place::Line { a, b } => (0, a, b, 0.0),
@@ -223,12 +292,11 @@ impl Library {
         // SAFETY: each list is a slice's, an array's or a vector's pointer and length, and an empty slice's pointer is
         // aligned and not null too; what is written are a slice that is borrowed alone, and a local.
         let number = unsafe {
-            on_lists!(
+            asking!(
                 gemlab_grid_search_list,
+                gemlab_directory_list,
                 sheet,
                 self,
-                as_ptr,
-                self.used,
                 place,
                 a.as_ptr(),
                 a.len(),

@@ -45,7 +45,7 @@ refusals! {
     9 BORDER "the border is negative",
     10 SIDE "the side of a container is at most twice the tolerance",
     11 OUTSIDE "the position is outside the sheet or the index",
-    12 FULL "the call needs more new rows, large-cell entries or entries for marks than are free",
+    12 FULL "the call needs more new rows, places of a directory, large-cell entries or entries for marks than are free",
     13 DAMAGED "what was handed in is damaged",
     14 SHORT "the lent list is shorter than the listing, or the lent buffer than the text",
     15 CLOSE "the ends of a line, or of a cylinder's axis, are too close",
@@ -57,11 +57,12 @@ refusals! {
     21 PERCENTAGE "the percentage is outside 0 to 1",
     22 NO_EXTENT "no extent, or 0 divisions, on some axis",
     23 ALL_LARGE "every cell is large, and the percentage keeps them so",
-    24 TOO_LONG "a lent list holds more than 65,536 points, cells, rows or marks",
+    24 TOO_LONG "a lent list holds more than 65,536 points, cells, rows, places or marks",
     25 COORDINATES "the coordinate list is not of length 4",
     26 NO_ROW "the id that is to be struck off has no row",
     27 MALFORMED "a line of the text is malformed",
     28 NO_DECIMAL "a coordinate to export is not, bit for bit, the value of any decimal that an import takes",
+    29 MISMATCH "the used places of a directory do not match the rows",
 }
 
 impl Refusal {

@@ -1,7 +1,7 @@
 //! What the header says besides the meaning of each call: names, how long lists have to be, threads and stack.
 
 use hrbotaj::survey::{self, Mark, POINT_BYTES};
-use hrbotaj::{CellIndex, Check, Filter, Library, Mesh, Place, Refusal, Sheet, ROWS, STACK, STACK_LISTING};
+use hrbotaj::{CellIndex, Check, Filter, Library, LookUp, Mesh, Place, Refusal, Sheet, ROWS, STACK, STACK_LISTING};
 use std::thread;
 
 /// The names that the header defines as numbers, without `GEMLAB_`.
@@ -20,11 +20,11 @@ fn header() -> Vec<(String, u64)> {
 fn names_are_the_headers() {
     let header = header();
     let number = |name: &str| header.iter().find(|(of, _)| of == name).map(|(_, n)| *n);
-    for n in 1..=28 {
+    for n in 1..=29 {
         let name = Refusal(n).name().unwrap();
         assert_eq!(number(name), Some(n), "{name}");
     }
-    assert_eq!((Refusal(0).name(), Refusal(29).name()), (None, None));
+    assert_eq!((Refusal(0).name(), Refusal(30).name()), (None, None));
     assert_eq!((Refusal::OUTSIDE, Refusal::NO_ROW, Refusal::MALFORMED), (Refusal(11), Refusal(26), Refusal(27)));
     assert_eq!(number("STACK"), Some(STACK as u64));
     assert_eq!(number("STACK_LISTING"), Some(STACK_LISTING as u64));
@@ -321,6 +321,13 @@ fn calls_run_in_threads_with_little_stack() {
                 assert_eq!(own.insert(&sheet, 9, &[4.0, 4.0]), Ok(()));
                 assert_eq!(own.search(&sheet, &[4.0, 4.0]), Ok(Some(9)));
                 assert_eq!(own.check(&sheet), Ok(Check { bad: None, visited: own.used }));
+                own.build_directory(&sheet).unwrap();
+                assert_eq!(own.search(&sheet, &[4.0, 4.0]), Ok(Some(9)));
+                assert_eq!(own.strike(&sheet, 9), Ok(4));
+                assert_eq!(own.insert(&sheet, 9, &[4.0, 4.0]), Ok(()));
+                // the middle one of 65,531 containers
+                assert_eq!(own.look_up(&sheet, 32765), Ok(LookUp { place: Some(32765), reads: 1 }));
+                own.directory = None;
                 assert_eq!(own.strike(&sheet, 9), Ok(4));
                 assert_eq!(library.check(&sheet), Ok(Check { bad: None, visited: ROWS as u64 }));
                 assert_eq!(library.search(&sheet, &[4.0, 4.0]), Ok(None));
