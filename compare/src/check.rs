@@ -29,7 +29,7 @@ fn results(broken: u64, row: u64, visited: u64) -> [u64; 7] {
 
 impl Lent {
     /// The number, and what the results and the entries beside them hold after the call.
-    fn check(&self) -> (u64, [u64; 7]) {
+    pub(crate) fn check(&self) -> (u64, [u64; 7]) {
         self.check_but(0)
     }
 

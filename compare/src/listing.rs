@@ -27,7 +27,7 @@ const STORIES: usize = 2_000;
 const ENTRY: u64 = 0x1234_5678_9abc_def0;
 const COUNT: u64 = 0x0fed_cba9_8765_4321;
 
-const LINE: u64 = 0;
+pub(crate) const LINE: u64 = 0;
 const CIRCLE: u64 = 1;
 const CYLINDER: u64 = 2;
 const PLANE_XY: u64 = 3;
@@ -37,14 +37,14 @@ const PLANE_XZ: u64 = 5;
 /// A place and a filter, as the C interface has them.
 #[derive(Clone, Debug)]
 pub(crate) struct Asked {
-    place: u64,
-    a: Vec<f64>,
-    b: Vec<f64>,
-    number: f64,
-    filter: u64,
-    axis: u64,
-    low: f64,
-    high: f64,
+    pub(crate) place: u64,
+    pub(crate) a: Vec<f64>,
+    pub(crate) b: Vec<f64>,
+    pub(crate) number: f64,
+    pub(crate) filter: u64,
+    pub(crate) axis: u64,
+    pub(crate) low: f64,
+    pub(crate) high: f64,
 }
 
 impl Asked {
@@ -57,7 +57,7 @@ impl Asked {
     }
 
     /// What gemlab answers: the ids, or that the ends are too close.
-    fn rust(&self, s: &GridSearch) -> Result<HashSet<usize>, &'static str> {
+    pub(crate) fn rust(&self, s: &GridSearch) -> Result<HashSet<usize>, &'static str> {
         let keep = |x: &[f64]| self.keeps(x);
         match self.place {
             LINE => s.search_on_line(&self.a, &self.b, keep),
@@ -111,8 +111,13 @@ impl Asked {
 pub(crate) fn list(lent: &Lent, asked: &Asked, room: usize) -> (u64, u64, Vec<u64>) {
     let mut out = vec![ENTRY; room + 1];
     let mut count = COUNT;
+    let number = list_into(lent, asked, &mut out[..room], &mut count);
+    (number, count, out)
+}
+
+pub(crate) fn list_into(lent: &Lent, asked: &Asked, out: &mut [u64], count: &mut u64) -> u64 {
     // SAFETY: each pointer is a vector's or a local's, which is aligned and not null, with its length; the written ones are apart.
-    let number = unsafe {
+    unsafe {
         on_lent!(
             gemlab_grid_search_list,
             lent,
@@ -130,16 +135,15 @@ pub(crate) fn list(lent: &Lent, asked: &Asked, room: usize) -> (u64, u64, Vec<u6
             asked.low,
             asked.high,
             out.as_mut_ptr(),
-            room,
-            &mut count,
+            out.len(),
+            count,
         )
-    };
-    (number, count, out)
+    }
 }
 
 /// What a listing on a sound library gives: the ids, ascending, or a refusal, but for 14. 16, 2 and 3 are read from document 01,
 /// the rest is gemlab's answer.
-fn due(asked: &Asked, ndim: usize, rust: &GridSearch) -> Result<Vec<u64>, u64> {
+pub(crate) fn due(asked: &Asked, ndim: usize, rust: &GridSearch) -> Result<Vec<u64>, u64> {
     if let Some(number) = asked.fault(ndim) {
         return Err(number);
     }
@@ -640,8 +644,9 @@ fn best(mut f: impl FnMut()) -> f64 {
     best
 }
 
-pub fn measure() {
-    println!("{:>6} {:<10} {:>6} {:>12} {:>12} {:>7}", "rows", "place", "ids", "here ns", "gemlab ns", "ratio");
+/// Libraries and places to measure listings on: so many rows, few or all of which are on the place. `work` has what the place is, the
+/// library, the place, and how many ids are on it.
+pub(crate) fn cases(mut work: impl FnMut(&str, &World, &Asked, usize)) {
     let mut r = Random::new(28);
     for rows in [1000, 10_000, MOST_ROWS] {
         for (name, ndim, asked) in [
@@ -688,41 +693,25 @@ pub fn measure() {
                 }
                 write_rows(&mut w, &found);
                 let n = asked.rust(&w.rust).unwrap().len();
-                let mut out = vec![0; n];
-                let mut count = 0;
-                let here = best(|| {
-                    let l = &w.lent;
-                    // SAFETY: as in `list`.
-                    let number = unsafe {
-                        on_lent!(
-                            gemlab_grid_search_list,
-                            l,
-                            as_ptr,
-                            0,
-                            l.used,
-                            asked.place,
-                            asked.a.as_ptr(),
-                            asked.a.len(),
-                            asked.b.as_ptr(),
-                            asked.b.len(),
-                            asked.number,
-                            0,
-                            0,
-                            0.0,
-                            0.0,
-                            out.as_mut_ptr(),
-                            n,
-                            &mut count,
-                        )
-                    };
-                    assert_eq!((number, count as usize), (0, n));
-                });
-                let there = best(|| {
-                    black_box(asked.rust(&w.rust).unwrap().len());
-                });
-                let name = format!("{name} {ndim}D");
-                println!("{rows:>6} {name:<11} {n:>6} {here:>12.0} {there:>12.0} {:>6.2}x", there / here);
+                work(&format!("{name} {ndim}D"), &w, &asked, n);
             }
         }
     }
+}
+
+pub fn measure() {
+    println!("{:>6} {:<10} {:>6} {:>12} {:>12} {:>7}", "rows", "place", "ids", "here ns", "gemlab ns", "ratio");
+    cases(|name, w, asked, n| {
+        let rows = w.lent.used;
+        let mut out = vec![0; n];
+        let mut count = 0;
+        let here = best(|| {
+            let number = list_into(&w.lent, asked, &mut out, &mut count);
+            assert_eq!((number, count as usize), (0, n));
+        });
+        let there = best(|| {
+            black_box(asked.rust(&w.rust).unwrap().len());
+        });
+        println!("{rows:>6} {name:<11} {n:>6} {here:>12.0} {there:>12.0} {:>6.2}x", there / here);
+    });
 }

@@ -11,6 +11,8 @@ mod cell_search;
 mod cells;
 mod check;
 mod choice;
+mod directories;
+mod directory;
 mod field;
 mod floats;
 mod geometry;
@@ -40,6 +42,7 @@ const PARTS: &[(&str, fn(&mut Tally))] = &[
     ("nearest", nearest::compare),
     ("check", check::compare),
     ("survey", survey::compare),
+    ("directory", directory::compare),
     ("cells", cells::compare),
     ("field", field::compare),
 ];
@@ -54,6 +57,7 @@ const BENCHES: &[(&str, fn())] = &[
     ("bench-nearest", nearest::measure),
     ("bench-check", check::measure),
     ("bench-survey", survey::measure),
+    ("bench-directory", directory::measure),
     ("bench-cells", cells::measure),
 ];
 

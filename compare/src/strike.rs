@@ -165,7 +165,7 @@ impl Story {
     }
 
     /// An id to strike: most often one that has rows; or one beside it, the last one struck, any.
-    fn id(&self, s: &mut Source) -> u64 {
+    pub(crate) fn id(&self, s: &mut Source) -> u64 {
         if self.w.rows.is_empty() {
             return s.id();
         }
@@ -231,7 +231,7 @@ fn runs(t: &mut Tally) {
 
 /// How the rows of a large library are shared out.
 #[derive(Clone, Copy, Debug)]
-enum Shares {
+pub(crate) enum Shares {
     /// every row is of one id
     All,
     /// every second row, and the others of a second id
@@ -245,7 +245,7 @@ enum Shares {
 }
 
 /// A library of the largest size: its lists are written as gemlab's containers are.
-fn stocked(ndim: usize, shares: Shares, s: &mut Source, t: &mut Tally) -> Option<Story> {
+pub(crate) fn stocked(ndim: usize, shares: Shares, s: &mut Source, t: &mut Tally) -> Option<Story> {
     let ndiv = if ndim == 2 { 256 } else { 41 };
     let settings = Settings {
         xmin: vec![0.0; ndim],
@@ -388,7 +388,7 @@ pub fn compare(t: &mut Tally) {
 }
 
 /// Nanoseconds of a call, the best of many; the k-th time `put_back` brings back what a call changes, and that is not timed.
-fn best<S>(state: &mut S, put_back: impl Fn(&mut S, usize), call: impl Fn(&mut S) -> u64) -> f64 {
+pub(crate) fn best<S>(state: &mut S, put_back: impl Fn(&mut S, usize), call: impl Fn(&mut S) -> u64) -> f64 {
     let mut best = f64::INFINITY;
     let until = Instant::now() + Duration::from_millis(200);
     for k in 0.. {

@@ -6,7 +6,7 @@ use std::fmt::Debug;
 const SHOWN: u64 = 10;
 
 /// Numbers that a call may return: 0 for success, and the refusals.
-const NUMBERS: usize = 29;
+const NUMBERS: usize = 30;
 
 pub struct Tally {
     name: String,

@@ -1,7 +1,7 @@
 //! Times of small functions, measured side by side in one run.
 
 use std::hint::black_box;
-use std::time::Instant;
+use std::time::{Duration, Instant};
 
 /// Nanoseconds for a call of f on each of xs: the best of several rounds, once with calls that may overlap and once where
 /// each call waits for the last. Work of others on the same machine can double the second: the least of several runs counts.
@@ -69,6 +69,33 @@ pub fn in_turn<const N: usize>(bursts: [&dyn Fn(usize, usize) -> u64; N]) -> [f6
 /// The same for calls of milliseconds: one a turn.
 pub fn long_in_turn<const N: usize>(bursts: [&dyn Fn(usize, usize) -> u64; N]) -> [f64; N] {
     best_in_turn(100, [1; N], bursts)
+}
+
+/// Nanoseconds that a call of f takes more than one of g: the median over many turns, in which one call follows the other, now the one
+/// first and now the other. Turns that the work of others has made longer are left out. It tells what small part of a long call comes
+/// after the rest, where the best of each would vary by more.
+pub fn more(f: impl Fn(usize) -> u64, g: impl Fn(usize) -> u64) -> f64 {
+    let (f, g) = (burst(f), burst(g));
+    let until = Instant::now() + Duration::from_millis(500);
+    let mut turns = Vec::new();
+    for k in 0.. {
+        if Instant::now() > until && k > 0 {
+            break;
+        }
+        turns.push(if k % 2 == 0 {
+            let took = time(&f, k, 1);
+            (took, time(&g, k, 1))
+        } else {
+            let other = time(&g, k, 1);
+            (time(&f, k, 1), other)
+        });
+    }
+    let least = |of: fn(&(f64, f64)) -> f64| turns.iter().map(of).fold(f64::INFINITY, f64::min);
+    let (least_f, least_g) = (least(|turn| turn.0), least(|turn| turn.1));
+    let calm = |turn: &&(f64, f64)| turn.0 < 1.1 * least_f + 100.0 && turn.1 < 1.1 * least_g + 100.0;
+    let mut differences: Vec<f64> = turns.iter().filter(calm).map(|turn| turn.0 - turn.1).collect();
+    differences.sort_by(f64::total_cmp);
+    differences.get(differences.len() / 2).copied().unwrap_or(least_f - least_g)
 }
 
 fn time(burst: &dyn Fn(usize, usize) -> u64, k: usize, calls: usize) -> f64 {
