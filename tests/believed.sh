@@ -464,7 +464,7 @@ printf '%s put_text\n' catalogue survey >>"$work/calls"
 show=1
 [ "${1:-}" != --count ] || show=0
 failed=0
-walk . "$show" "$work/calls" 'rows/specs/Claims independence/specs/Claims cell_claims/specs/Claims millimetres/specs/Claims survey_claims/specs/Claims' >"$work/list" || failed=1
+walk . "$show" "$work/calls" 'rows/specs/Claims directory/specs/Claims independence/specs/Claims cell_claims/specs/Claims millimetres/specs/Claims survey_claims/specs/Claims' >"$work/list" || failed=1
 count=$(tail -n 1 "$work/list")
 [ "$show" -eq 1 ] && for page in README.md docs/PROOFS.md; do
     said=$(tr -s '\n ' '  ' <$page | grep -oE '[0-9,]+ definitions, [0-9,]+ lines') || :

@@ -17,6 +17,11 @@ search search
 listing search_on search_on_place
 listing search_on_line search_on_circle search_on_cylinder
 listing search_on_plane_xy search_on_plane_yz search_on_plane_xz
+directory build look_up
+directory_insert insert
+directory_strike strike
+directory_search search
+directory_list search_on search_on_place
 files sheet_of_file part_length part_of marks_answer input_of said_of
 survey_import import
 survey_export export
@@ -151,8 +156,8 @@ $(public)
 END
 others=$(contracts crates/capi/src/*.rt | sed 's/ .*//' | grep -v '^gemlab_' || :)
 shown=$(contracts crates/capi/src/*.rt | grep -c '^gemlab_')
-if [ -n "$others" ] || [ "$(public | sed -n 's/^capi //p' | wc -w)" -ne 14 ] || [ "$shown" -ne 14 ]; then
-    echo "public: capi shows other calls than the fourteen of its header: $shown, and $others" && failed=1
+if [ -n "$others" ] || [ "$(public | sed -n 's/^capi //p' | wc -w)" -ne 20 ] || [ "$shown" -ne 20 ]; then
+    echo "public: capi shows other calls than the twenty of its header: $shown, and $others" && failed=1
 fi
 [ "$failed" -eq 0 ] && echo "public: every public call promises something and asks nothing"
 exit $failed
