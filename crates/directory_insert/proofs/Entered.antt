@@ -4,6 +4,7 @@ use Prim.Native.Nat.{ℕ, suc, _+_, _≤_, _<_}
 use native.Mathlib.Nat.{eq-or-lt-of-le}
 use native.Mathlib.Omega.{arith}
 use mathlib.Core.Path.{_≡_, refl, sym, ap, ap₂, _∙_, subst}
+use mathlib.Core.Logic.{⊎-elim}
 use mathlib.Core.Bool.{Bool, true, false, cond, _&&_, _||_, or-true}
 use mathlib.Core.List.{List, [], _∷_, map}
 use lib.Dec.{ltb, leb, eqb}
