@@ -1,1 +1,2 @@
 // Definitions that every layer shares stand in specs/. There is no code.
+#![tactic(auto)]

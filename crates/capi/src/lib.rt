@@ -1,5 +1,7 @@
 // The C interface: numbers and plain slices in, one call, numbers out. `include/gemlab.h` says what each function
 // means to its caller; each contract says that the number returned and everything lent are those of the call's definition.
+#![tactic(auto)]
+
 mod cells;
 mod directories;
 mod distances;

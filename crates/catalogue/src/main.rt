@@ -1,5 +1,7 @@
 // Reads a sheet from `sheet.bin` and marks from `marks.bin`, inserts the marks into space for 1,024 rows, and prints the
 // library as gemlab's `Display` does, or `refused N` alone. Nothing is printed before the whole of `marks.bin` is judged.
+#![tactic(auto)]
+
 ghost use Rattle.std.specs.Prelude.{take, ◌≡◌, true};
 ghost use Rattle.basics.specs.Refusals.{success};
 ghost use Rattle.io.specs.Counts.{IsPrefixLen};

@@ -1,5 +1,7 @@
 // The check of a cell index that is handed in, with the mesh that it was built for: what every call that takes an index
 // judges first.
+#![tactic(auto)]
+
 ghost use Rattle.std.specs.Prelude.{◌≤◌, ◌≡◌, true, ◌&&◌, length, take};
 ghost use Rattle.std.specs.Float.Ieee.{le};
 ghost use Rattle.basics.specs.Lists.{all};

@@ -1,5 +1,7 @@
 // The rows of an index: each cell that is not large is filed under the containers of its bounding box's corners. Rows are counted
 // first, then written into the lent keys as one number each, cell by cell, sorted there, and taken apart.
+#![tactic(auto)]
+
 ghost use Rattle.std.specs.Prelude.{ℕ, ◌+◌, ◌*◌, ◌%◌, ◌≤◌, ◌<◌, ◌≡◌, true, cond, map, [], eqb, ltb, length, take};
 ghost use Rattle.std.proofs.Math.Seq.{paste};
 ghost use Rattle.basics.specs.Lists.{all, over};

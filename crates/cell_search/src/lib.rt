@@ -1,4 +1,6 @@
 // Module 10: the cell at a position. From `GridCells::search` of gemlab's `mesh/grid_cells.rs`, over plain slices.
+#![tactic(auto)]
+
 ghost use Rattle.std.specs.Prelude.{◌+◌, ◌<◌, ◌≡◌, true, ◌||◌, ◌++◌, length};
 ghost use Rattle.std.proofs.Math.Seq.{slice};
 ghost use Rattle.std.specs.Float.Ieee.{lt};

@@ -1,4 +1,6 @@
 // What the cells of a mesh measure: the box around them all, which of them are large, and the largest length of those that are filed.
+#![tactic(auto)]
+
 ghost use Rattle.std.specs.Prelude.{◌≤◌, ◌<◌, ◌≡◌, true};
 ghost use Rattle.floats.specs.Rounded.{◌⊘◌, of_nat};
 ghost use Rattle.geometry.specs.Position.{dimension};

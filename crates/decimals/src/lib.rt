@@ -1,4 +1,6 @@
 // Numbers and coordinates in the text of surveyors: read from a field of a line, and put into a lent buffer.
+#![tactic(auto)]
+
 ghost use Rattle.std.specs.Prelude.{◌+◌, ◌-◌, ◌*◌, ◌^◌, ◌≤◌, ◌<◌, ◌≡◌, cond, ◌&&◌, ltb, leb, nat_abs, length};
 ghost use Rattle.std.proofs.Math.Option.{none, some};
 ghost use Rattle.text.specs.Text.{number_of, Put};

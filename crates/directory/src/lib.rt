@@ -1,5 +1,7 @@
 // Request e of document 02: a directory beside the rows of a library: for each container in use its key, first row and number of
 // rows, in three lent slices of one length. Its check, its build, and the look-up of a key. gemlab finds a container by hashing.
+#![tactic(auto)]
+
 ghost use Rattle.std.specs.Prelude.{◌≡◌, ℕ, ◌≤◌, length, take, drop};
 ghost use Rattle.basics.specs.Refusals.{fault, code, success};
 ghost use Rattle.table.specs.Library.{library};

@@ -1,5 +1,7 @@
 // Request e of document 02: insertion into a library that has a directory, which is brought up to date row by row: a row that is
 // new is one more of its container's, or opens a place, and the containers after it begin one row later.
+#![tactic(auto)]
+
 ghost use Rattle.std.specs.Prelude.{◌≡◌, ◌||◌, cond, ℕ, ◌+◌, ◌^◌, ◌≤◌, ◌<◌, eqb, length, take, get_or};
 ghost use Rattle.basics.specs.Lists.{has};
 ghost use Rattle.table.specs.Rows.{lead, put_in};

@@ -1,4 +1,6 @@
 // Request e of document 02: listings of a library that has a directory. Their walk has the end of a container from its count.
+#![tactic(auto)]
+
 ghost use Rattle.table.specs.Library.{library};
 ghost use Rattle.listing.specs.Place.{asked_of, asked};
 ghost use Rattle.listing.specs.Listing.{listing, Lists};

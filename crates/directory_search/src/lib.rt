@@ -1,4 +1,6 @@
 // Request e of document 02: the mark at a position, through a directory of the containers.
+#![tactic(auto)]
+
 ghost use Rattle.std.specs.Prelude.{◌≡◌, true};
 ghost use Rattle.std.proofs.Math.Option.{none};
 ghost use Rattle.basics.specs.Refusals.{fault, success};

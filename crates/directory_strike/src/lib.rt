@@ -1,4 +1,6 @@
 // Request e of document 02: an id is struck off in a library that has a directory, which is brought up to date, not built afresh.
+#![tactic(auto)]
+
 ghost use Rattle.std.specs.Prelude.{◌≡◌, ◌+◌, ◌^◌, ◌≤◌, ◌<◌, length, take, drop};
 ghost use Rattle.table.specs.Library.{library};
 ghost use Rattle.strike.specs.Strike.{striking};

@@ -1,4 +1,6 @@
 // The text of a library, as gemlab's `impl Display for GridSearch` prints it, put into a lent buffer.
+#![tactic(auto)]
+
 ghost use Rattle.std.specs.Prelude.{◌+◌, ◌^◌, ◌≤◌, ◌<◌, ◌≡◌, true, map, length, take};
 ghost use Rattle.basics.specs.Lists.{all};
 ghost use Rattle.geometry.specs.Position.{dimension};

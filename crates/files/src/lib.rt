@@ -4,6 +4,8 @@
 //
 // `opened` is what opening a file answered, below 0 where it cannot be opened; `after` is what reading on after the bytes that
 // came answered: 0 at the end, the number of bytes where more follow, below 0 where it fails.
+#![tactic(auto)]
+
 ghost use Rattle.std.specs.Prelude.{◌≤◌, ◌<◌, ◌≡◌, length, take};
 ghost use Rattle.grid_search.specs.Sheet.{made};
 ghost use Rattle.table.specs.Library.{library};

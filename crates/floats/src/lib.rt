@@ -1,5 +1,7 @@
 // Module 1: what Rust has of `f64` and Rattle has not. Root, truncation and rounding up, proved equal to
 // IEEE 754's definitions, total on every value; and the tests of a float that the layers above share.
+#![tactic(auto)]
+
 ghost use Rattle.std.specs.Prelude.{◌≡◌, ℕ, ◌+◌, ◌-◌, ◌*◌, ◌^◌, ◌<◌, ◌≤◌, from_bits};
 ghost use Rattle.std.specs.Float.{binary64};
 ghost use Rattle.std.specs.Float.Ieee.{to_unsigned};

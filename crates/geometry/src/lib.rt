@@ -1,6 +1,8 @@
 // Modules 2 and 9: distances between points, lines, circles and cylinders, and the coordinates of a point in a
 // triangle or a tetrahedron. Names, operations and their order are those of gemlab's `geometry/algorithms.rs`,
 // `triangle.rs` and `tetrahedron.rs`.
+#![tactic(auto)]
+
 ghost use Rattle.std.specs.Prelude.{ℕ, ◌^◌, ◌≡◌, true, [], ◌∷◌, Float, get_or};
 ghost use Rattle.basics.specs.Lists.{all};
 ghost use Rattle.basics.specs.Refusals.{refuse, fault, answer, through};

@@ -1,5 +1,7 @@
 // Modules 3 and 4: how a box is divided into containers, which container a position falls into, and a container's
 // centre. From gemlab's `util/num_divisions.rs`, `util/calc_container_key.rs` and the methods of `GridSearch`.
+#![tactic(auto)]
+
 ghost use Rattle.std.specs.Prelude.{◌^◌, ◌≤◌, ◌<◌, ◌≡◌, true, cond, ◌||◌};
 ghost use Rattle.std.specs.Float.Ieee.{lt};
 ghost use Rattle.basics.specs.Lists.{all};

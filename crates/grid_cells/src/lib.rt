@@ -1,5 +1,7 @@
 // Module 10: an index of the cells of a mesh, to find them by position. From gemlab's `mesh/grid_cells.rs`, for triangles (2D) and
 // tetrahedra (3D), over plain slices: flat coordinates, and 3 or 4 corners per cell.
+#![tactic(auto)]
+
 ghost use Rattle.std.specs.Prelude.{◌≡◌};
 ghost use Rattle.grid_search.specs.Sheet.{tolerance_of, border_of};
 ghost use Rattle.mesh.specs.Mesh.{mesh_of};

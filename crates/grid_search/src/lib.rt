@@ -1,5 +1,7 @@
 // Module 5: the sheet. `GridSearch` keeps its settings and what they give; `GridSearch::new` makes it, and a later
 // call is handed it back and checks that it is the one its settings give. From gemlab's `util/grid_search.rs`.
+#![tactic(auto)]
+
 ghost use Rattle.std.specs.Prelude.{◌≤◌, ◌≡◌, true};
 ghost use Rattle.basics.specs.Lists.{all};
 ghost use Rattle.floats.specs.Rounded.{◌⊕◌, ◌⊖◌, ◌⊗◌, ◌⊘◌, of_nat};

@@ -1,4 +1,6 @@
 // A text cut at a byte, and its lines.
+#![tactic(auto)]
+
 ghost use Rattle.std.specs.Prelude.{◌≤◌, ◌<◌, ◌≡◌, length};
 ghost use Rattle.basics.specs.Lists.{leading};
 ghost use Rattle.lines.specs.Posts.{IsLine};

@@ -1,4 +1,6 @@
 // Module 8: the marks on a line, a circle, a cylinder or a plane. From gemlab's `search_on_line` and its kin.
+#![tactic(auto)]
+
 mod asked;
 mod near;
 mod walk;

@@ -1,4 +1,6 @@
 // A sheet and marks from the bytes of their files, which are records as `records` has them.
+#![tactic(auto)]
+
 ghost use Rattle.std.specs.Prelude.{◌/◌, ◌≤◌, ◌≡◌, length};
 ghost use Rattle.geometry.specs.declared.Position.{Position};
 ghost use Rattle.geometry.specs.Position.{coords};

@@ -1,4 +1,6 @@
 // Marks in lent lists: four slices of one length, a mark being an entry of each. A mark is of the type of a record of the files.
+#![tactic(auto)]
+
 ghost use Rattle.std.specs.Prelude.{◌+◌, ◌≡◌, [], ◌∷◌};
 ghost use Rattle.basics.specs.Refusals.{fault, code};
 ghost use Rattle.table.specs.Posts.{written};

@@ -1,5 +1,7 @@
 // A mesh of triangles (2D) or tetrahedra (3D) in two lent slices: the coordinates of its points, and the points at the
 // corners of its cells. What gemlab's `mesh/grid_cells.rs` does with one cell at a time.
+#![tactic(auto)]
+
 ghost use Rattle.std.specs.Prelude.{ℕ, ◌+◌, ◌*◌, ◌≤◌, ◌<◌, ◌≡◌, true, [], ltb, length, get_or};
 ghost use Rattle.basics.specs.Lists.{all, zip_with};
 ghost use Rattle.floats.specs.Rounded.{zero_f};

@@ -1,5 +1,7 @@
 // The mesh view: a struct that holds the lent coordinates and corner lists, and thin functions over it. Each takes the view
 // apart and calls the function on plain slices.
+#![tactic(auto)]
+
 ghost use Rattle.std.specs.Prelude.{◌≡◌};
 ghost use Rattle.mesh.specs.Mesh.{mesh_of};
 ghost use Rattle.grid_cells.specs.Build.{settings_of, index_lists, build, leaves_lists};

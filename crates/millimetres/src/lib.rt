@@ -1,5 +1,7 @@
 // Whole millimetres, and the coordinates that they are: a number of millimetres divided once by 1,000. A coordinate is turned
 // back by a rounded product, and an exact test of what it gives.
+#![tactic(auto)]
+
 ghost use Rattle.std.specs.Prelude.{◌≤◌, ◌≡◌, nat_abs};
 ghost use Rattle.millimetres.specs.Millimetres.{limit, signed, value_of, decimal_of, whole_of};
 

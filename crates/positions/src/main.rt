@@ -1,5 +1,7 @@
 // Document 01's 'Positions tried' through the public functions: a line for each, in the document's order; then root,
 // truncation and rounding up at their edges. What it has to write is made by gemlab (compare/stored/positions.rs).
+#![tactic(auto)]
+
 mod printing;
 
 fn say(what: &[u8]) {

@@ -1,4 +1,6 @@
 // The functions that serve the public calls, for the comparison with the Rust. Nothing else is here.
+#![tactic(auto)]
+
 mod cells;
 mod containers;
 

@@ -1,4 +1,6 @@
 // The 32-byte records of the files: an id and three floats, little-endian.
+#![tactic(auto)]
+
 ghost use Rattle.std.specs.Prelude.{◌+◌, ◌≤◌, ◌<◌, ◌≡◌, length};
 ghost use Rattle.records.specs.Records.{number_at, float_at, record_at, read_answer, reading};
 

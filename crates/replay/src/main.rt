@@ -1,5 +1,7 @@
 // Goes through a sample of gemlab's answers (data/, laid out as docs/STORED.md says): makes each call, compares what comes
 // back with what gemlab gave, and tells how many calls there were and how many differ.
+#![tactic(auto)]
+
 mod checks;
 mod compared;
 mod library;

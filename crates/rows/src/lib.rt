@@ -1,5 +1,7 @@
 // Module 6: a library of marks on a sheet, in five lent slices: its check, and insertion. From gemlab's
 // `GridSearch::insert`, `update_or_insert` and `set_halo`.
+#![tactic(auto)]
+
 ghost use Rattle.std.specs.Prelude.{◌≡◌, true, false, cond, ◌&&◌, [], ◌++◌, ℕ, ◌%◌, ◌^◌, ◌≤◌, ◌<◌, eqb, length};
 ghost use Rattle.std.proofs.Math.Option.{none};
 ghost use Rattle.basics.specs.Refusals.{fault, code, success};

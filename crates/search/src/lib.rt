@@ -1,4 +1,6 @@
 // Module 7: the mark at a position. From gemlab's `GridSearch::search`.
+#![tactic(auto)]
+
 ghost use Rattle.std.specs.Prelude.{◌≡◌, true, take};
 ghost use Rattle.basics.specs.Refusals.{success};
 ghost use Rattle.geometry.specs.Position.{coords, dimension};

@@ -1,4 +1,6 @@
 // Request a of document 02: a post is dug out, and its number goes from the catalogue. gemlab has nothing of the kind.
+#![tactic(auto)]
+
 ghost use Rattle.std.specs.Prelude.{◌≡◌, cond, ◌+◌, ◌^◌, ◌≤◌, ◌<◌, length, take};
 ghost use Rattle.std.specs.Float.{nan};
 ghost use Rattle.table.specs.Rows.{without};

@@ -1,6 +1,8 @@
 // Reads a surveyor's text from standard input, builds a sheet on three axes from the extremes of its marks, and goes on as the
 // program `catalogue` does: prints the library of the marks as gemlab's `Display` does, or `refused N` alone, `refused 27 L` where
 // line L is malformed. It holds 1,024 marks and 131,072 bytes.
+#![tactic(auto)]
+
 ghost use Rattle.std.specs.Prelude.{take};
 ghost use Rattle.io.specs.Counts.{IsPrefixLen};
 ghost use Rattle.text.specs.Text.{Front};

@@ -1,4 +1,6 @@
 // Request d of document 02: point lists for the surveyors. Marks become a text of lines in a lent buffer.
+#![tactic(auto)]
+
 ghost use Rattle.std.specs.Prelude.{◌+◌, ◌^◌, ◌≤◌, ◌<◌, ◌≡◌, nat_abs, length};
 ghost use Rattle.text.specs.Text.{decimal, Put};
 ghost use Rattle.millimetres.specs.Millimetres.{limit};

@@ -1,4 +1,6 @@
 // Request d of document 02: point lists from the surveyors. A text of lines becomes marks in lent lists.
+#![tactic(auto)]
+
 ghost use Rattle.std.specs.Prelude.{ℕ, ◌≤◌, ◌≡◌, true, map, length};
 ghost use Rattle.basics.specs.Lists.{all};
 ghost use Rattle.lines.specs.Lines.{lines};

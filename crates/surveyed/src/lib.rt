@@ -1,5 +1,7 @@
 // What the program `survey` prints of a surveyor's text: the library of its marks on the sheet of their extremes, or the line of a
 // refusal.
+#![tactic(auto)]
+
 ghost use Rattle.std.specs.Prelude.{ℕ, ◌≤◌, ◌≡◌, true, List, length, take};
 ghost use Rattle.basics.specs.Refusals.{success};
 ghost use Rattle.grid_search.specs.Sheet.{made, sheet_ok};

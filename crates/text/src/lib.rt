@@ -1,5 +1,7 @@
 // Text in ASCII, put into a lent buffer from a place on, as far as the buffer goes. Each function answers the place past
 // its text, whether or not the buffer goes that far: with an empty buffer it measures.
+#![tactic(auto)]
+
 ghost use Rattle.std.specs.Prelude.{◌+◌, ◌^◌, ◌<◌, [], ◌∷◌, length};
 ghost use Rattle.text.specs.Text.{decimal, entry_text, entries, list_text, refusal, Put};
 

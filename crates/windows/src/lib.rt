@@ -1,5 +1,7 @@
 // Distances told by their squares, with no root. A root keeps the order, and so does its difference from a radius: a square
 // whose distance is known tells of every larger or every smaller one. That square is made from its root, with none taken.
+#![tactic(auto)]
+
 ghost use Rattle.std.specs.Prelude.{◌≡◌, true, false, Float};
 ghost use Rattle.std.specs.Float.Ieee.{lt, le};
 ghost use Rattle.floats.specs.Rounded.{zero_f};
