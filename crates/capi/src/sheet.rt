@@ -1,7 +1,7 @@
 // The sheet, in a list of 8 numbers and a list of 17 floats.
 ghost use Rattle.std.specs.Prelude.{◌+◌, ◌<◌, ◌≡◌, [], length};
 ghost use Rattle.capi.specs.Sheets.{given_number, given_float, number_flag, number_entry, float_flag, float_entry, numbers_of, floats_of};
-ghost use Rattle.capi.specs.Sheets.{new_in_c, ToldSheet, number_read, float_read, readable as readableOf, position_at, read_sheet, sheet_of};
+ghost use Rattle.capi.specs.Sheets.{new_in_c, ToldSheet, number_read, float_read, readable as readable_of, position_at, read_sheet, sheet_of};
 
 use geometry::Position;
 use grid::Divisions;
@@ -165,7 +165,7 @@ fn float_reads(flag: u64, value: f64) -> bool
 
 // Whether two lists can be those of a sheet: their lengths, the dimension, and the settings with their flags.
 fn readable(numbers: &[u64], floats: &[f64]) -> bool
-    ensures { result ≡ readableOf numbers.now floats.now }
+    ensures { result ≡ readable_of numbers.now floats.now }
 {
     if numbers.len() != NUMBERS {
         return false;

@@ -6,7 +6,7 @@ ghost use Rattle.floats.specs.Rounded.{◌⊘◌, of_nat};
 ghost use Rattle.geometry.specs.Position.{dimension};
 ghost use Rattle.mesh.specs.Mesh.{mesh_of, cell_count, Whole, boxed};
 ghost use Rattle.cell_sizes.specs.Large.{is_large, is_filed};
-ghost use Rattle.cell_sizes.specs.Steps.{Widened, Around, counted as countedBy, Counted, Sized};
+ghost use Rattle.cell_sizes.specs.Steps.{Widened, Around, counted as counted_by, Counted, Sized};
 
 use mesh::BoundingBox;
 
@@ -83,7 +83,7 @@ fn counted(ndim: usize, limit: f64, found: Census, b: BoundingBox) -> Census
     requires fact_1 { dimension ndim ≡ true }
     requires fact_2 { found.large < 65536 }
     requires fact_3 { found.small < 65536 }
-    ensures { result ≡ countedBy limit found (boxed ndim b) }
+    ensures { result ≡ counted_by limit found (boxed ndim b) }
 {
     let largest_length = b.largest_length(ndim);
     if largest_length >= limit {

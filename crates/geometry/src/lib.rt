@@ -8,7 +8,7 @@ ghost use Rattle.basics.specs.Lists.{all};
 ghost use Rattle.basics.specs.Refusals.{refuse, fault, answer, through};
 ghost use Rattle.floats.specs.Rounded.{◌⊖◌, zero_f};
 ghost use Rattle.geometry.specs.Position.{coords, position_of, axis_of, dimension, coordinate, every_axis, some_axis};
-ghost use Rattle.geometry.specs.Distances.{less, line_of, dot as dotOf, point_square, point_point, too_close, line_square, point_line};
+ghost use Rattle.geometry.specs.Distances.{less, line_of, dot as dot_of, point_square, point_point, too_close, line_square, point_line};
 ghost use Rattle.geometry.specs.Distances.{measured, point_point_answer, point_line_answer, point_circle_answer, point_cylinder_answer};
 ghost use Rattle.geometry.specs.Cells.{zetas, doubled_area, triangle_coords, tetrahedron_coords, inside};
 
@@ -172,7 +172,7 @@ fn difference(a: Position, b: Position) -> Position
 // u ⋅ v, from the left. In 2D there is no third term, as in gemlab: a sum of -0 would lose its sign to +0.
 fn dot(ndim: usize, u: Position, v: Position) -> f64
     requires { dimension ndim ≡ true }
-    ensures { result ≡ dotOf (coords ndim u) (coords ndim v) }
+    ensures { result ≡ dot_of (coords ndim u) (coords ndim v) }
 {
     if ndim == 2 {
         u.x * v.x + u.y * v.y

@@ -7,7 +7,7 @@ ghost use Rattle.std.specs.Float.Ieee.{lt};
 ghost use Rattle.basics.specs.Lists.{all};
 ghost use Rattle.floats.specs.Rounded.{◌⊕◌, ◌⊖◌, ◌⊗◌, ◌⊘◌, of_nat, truncate, pow2, zero_f};
 ghost use Rattle.geometry.specs.Position.{coords, position_of, dimension};
-ghost use Rattle.grid.specs.Divisions.{counts, divisions_of, division, longer as longerOf, longest as longest_of, share as share_of, num_divisions};
+ghost use Rattle.grid.specs.Divisions.{counts, divisions_of, division, longer as longer_of, longest as longest_of, share as share_of, num_divisions};
 ghost use Rattle.grid.specs.Containers.{outside, inner as inner_of, along, Fits, combine, located, containers, indices, pivot_of, pivots, centre, InGrid};
 
 use geometry::Position;
@@ -92,7 +92,7 @@ pub fn divisions_ok(ndim: usize, ndiv: Divisions) -> bool
 
 // The longest axis so far, or this one where it is longer.
 fn longer(best: Longest, axis: usize, delta: f64) -> Longest
-    ensures { result ≡ longerOf best axis delta }
+    ensures { result ≡ longer_of best axis delta }
 {
     if delta > best.delta {
         Longest { axis, delta }

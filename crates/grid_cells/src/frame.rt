@@ -7,7 +7,7 @@ ghost use Rattle.floats.specs.Ceil.{ceil_of};
 ghost use Rattle.geometry.specs.Position.{coords as axes, dimension};
 ghost use Rattle.grid.specs.Divisions.{counts, divisions_of};
 ghost use Rattle.mesh.specs.Mesh.{Mesh, cell_count};
-ghost use Rattle.cell_sizes.specs.Large.{measure as measureOf};
+ghost use Rattle.cell_sizes.specs.Large.{measure as measure_of};
 ghost use Rattle.cell_sizes.specs.Steps.{Sized};
 ghost use Rattle.grid_cells.specs.Build.{cell_divisions, index, division_tests, frame_tests, built};
 
@@ -79,7 +79,7 @@ fn is_nothing_filed(sizes: Sizes, ncell: usize) -> bool
 // The index with no rows yet, or the refusal 23, 22 or 6.
 pub fn frame(ndim: usize, ncell: usize, sizes: Sizes, settings: Settings) -> Built
     requires { dimension ndim ≡ true }
-    ensures { (m : Mesh) → Sized ndim m settings sizes → ncell ≡ cell_count ndim m → built result ≡ answer (fault (frame_tests ndim (measureOf ndim m settings) settings)) (index ndim (measureOf ndim m settings) settings) }
+    ensures { (m : Mesh) → Sized ndim m settings sizes → ncell ≡ cell_count ndim m → built result ≡ answer (fault (frame_tests ndim (measure_of ndim m settings) settings)) (index ndim (measure_of ndim m settings) settings) }
 {
     if is_nothing_filed(sizes, ncell) {
         return Built::Refused(23);

@@ -7,7 +7,7 @@ ghost use Rattle.basics.specs.Lists.{all};
 ghost use Rattle.floats.specs.Rounded.{◌⊕◌, ◌⊖◌, ◌⊗◌, ◌⊘◌, of_nat};
 ghost use Rattle.geometry.specs.Position.{coords, position_of, dimension};
 ghost use Rattle.grid.specs.Divisions.{counts, division};
-ghost use Rattle.grid_search.specs.Sheet.{number_of, tolerance_of, border_of, largest as largestOf, lowered as loweredOf, raised as raisedOf, side_of, covered_of, diagonal as diagonalOf, sheet_from, past_limits, out_of_limits, in_order, made, new_sheet, same_position, same_divisions, same_sheet, sheet_ok};
+ghost use Rattle.grid_search.specs.Sheet.{number_of, tolerance_of, border_of, largest as largest_of, lowered as lowered_of, raised as raised_of, side_of, covered_of, diagonal as diagonal_of, sheet_from, past_limits, out_of_limits, in_order, made, new_sheet, same_position, same_divisions, same_sheet, sheet_ok};
 
 use geometry::Position;
 use grid::Divisions;
@@ -95,7 +95,7 @@ fn border_in_force(border_tol: GivenF64) -> f64
 // The low corner moved outwards by the border.
 pub fn lowered(ndim: usize, border: f64, low: Position) -> Position
     requires { dimension ndim ≡ true }
-    ensures { result ≡ position_of (loweredOf border (coords ndim low)) }
+    ensures { result ≡ position_of (lowered_of border (coords ndim low)) }
 {
     if border > 0.0 {
         let moved = Position {
@@ -111,7 +111,7 @@ pub fn lowered(ndim: usize, border: f64, low: Position) -> Position
 // The high corner moved outwards by the border.
 pub fn raised(ndim: usize, border: f64, high: Position) -> Position
     requires { dimension ndim ≡ true }
-    ensures { result ≡ position_of (raisedOf border (coords ndim high)) }
+    ensures { result ≡ position_of (raised_of border (coords ndim high)) }
 {
     if border > 0.0 {
         let moved = Position {
@@ -127,7 +127,7 @@ pub fn raised(ndim: usize, border: f64, high: Position) -> Position
 // The largest of the lengths along the axes in use.
 pub fn largest(ndim: usize, lengths: Position) -> f64
     requires { dimension ndim ≡ true }
-    ensures { result ≡ largestOf (coords ndim lengths) }
+    ensures { result ≡ largest_of (coords ndim lengths) }
 {
     let first = floats::max(lengths.x, lengths.y);
     if ndim == 2 {
@@ -185,7 +185,7 @@ pub fn covered(ndim: usize, xmin: Position, side: f64, ndiv: Divisions) -> Posit
 // The diagonal of a square or a cube of side 1.
 fn diagonal(ndim: usize) -> f64
     requires { dimension ndim ≡ true }
-    ensures { result ≡ diagonalOf ndim }
+    ensures { result ≡ diagonal_of ndim }
 {
     if ndim == 2 { SQRT_2 } else { SQRT_3 }
 }

@@ -1,7 +1,7 @@
 // What turns a place and a filter away, and the place that a number and slices name.
 ghost use Rattle.std.specs.Prelude.{◌≡◌, true, Float};
 ghost use Rattle.geometry.specs.Position.{dimension};
-ghost use Rattle.listing.specs.Place.{asked_of, asked as askedIn, unfit, unfit_filter, wrong_length, place_limits, filter_limits, pinched};
+ghost use Rattle.listing.specs.Place.{asked_of, asked as asked_in, unfit, unfit_filter, wrong_length, place_limits, filter_limits, pinched};
 ghost use Rattle.listing.specs.Posts.{Stands};
 
 use crate::{Filter, Place};
@@ -9,7 +9,7 @@ use geometry::Position;
 
 // Whether there is no such place in so many dimensions: 16.
 pub(crate) fn is_unfit(ndim: usize, place: Place) -> bool
-    ensures { result ≡ unfit ndim (askedIn ndim place) }
+    ensures { result ≡ unfit ndim (asked_in ndim place) }
 {
     match place {
         Place::Line(_, _) => false,
@@ -54,7 +54,7 @@ pub(crate) fn has_wrong_length(ndim: usize, place: u64, a: &[f64], b: &[f64]) ->
 // Whether every coordinate of the place, its radius included, is one: else 3.
 pub(crate) fn place_ok(ndim: usize, place: Place) -> bool
     requires { dimension ndim ≡ true }
-    ensures { result ≡ place_limits (askedIn ndim place) }
+    ensures { result ≡ place_limits (asked_in ndim place) }
 {
     match place {
         Place::Line(a, b) => geometry::position_ok(ndim, a) & geometry::position_ok(ndim, b),
@@ -109,7 +109,7 @@ pub(crate) fn made(place: u64, a: &[f64], b: &[f64], number: f64) -> Place
 // Whether the ends of a line or a cylinder are too close: 15.
 pub(crate) fn is_pinched(ndim: usize, place: Place) -> bool
     requires { dimension ndim ≡ true }
-    ensures { result ≡ pinched (askedIn ndim place) }
+    ensures { result ≡ pinched (asked_in ndim place) }
 {
     match place {
         Place::Line(a, b) => geometry::too_close(ndim, a, b),
