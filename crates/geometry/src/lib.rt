@@ -13,7 +13,7 @@ ghost use Rattle.geometry.specs.Distances.{measured, point_point_answer, point_l
 ghost use Rattle.geometry.specs.Cells.{zetas, doubled_area, triangle_coords, tetrahedron_coords, inside};
 
 // A position: three coordinates, of which the third is +0 in 2D.
-#[derive(Drop)]
+#[derive(Clone, Copy)]
 pub struct Position {
     pub x: f64,
     pub y: f64,
@@ -21,7 +21,7 @@ pub struct Position {
 }
 
 // The line through a and b, worked out once for many points: its direction n = b - a, and n ⋅ n.
-#[derive(Drop)]
+#[derive(Clone, Copy)]
 pub struct Line {
     pub a: Position,
     pub n: Position,
@@ -29,11 +29,11 @@ pub struct Line {
 }
 
 // The coordinates of a point in a cell: three in a triangle, whose fourth is +0 and none of them, four in a tetrahedron.
-#[derive(Drop)]
+#[derive(Clone, Copy)]
 pub struct Zeta(pub f64, pub f64, pub f64, pub f64);
 
 // What a distance function answers.
-#[derive(Drop)]
+#[derive(Clone, Copy)]
 pub enum Measured {
     Distance(f64),
     Refused(u64),

@@ -1,0 +1,12 @@
+-- `geometry::dot` meets its contract. Assumes nothing.
+use Rattle.geometry.proofs.Axes.{three}
+use Rattle.geometry.specs.Distances.{dot}
+use Rattle.geometry.proofs.dot.Goals as goal
+
+pub returns-then-ndim-eq2 : goal.returns-then-ndim-eq2
+unfolding dot
+returns-then-ndim-eq2 c = rw c.if-ndim-eq2.true
+
+pub returns-else-ndim-eq2 : goal.returns-else-ndim-eq2
+unfolding dot
+returns-else-ndim-eq2 c = rw (three c.args.ndim c.requires c.if-ndim-eq2.false)
