@@ -58,13 +58,13 @@ left_start text l at = record { to_stand = refl; to_pass = refl; same_length = r
 
 pub left_put : {text a b l l' l'' : List ℕ} {at next past : ℕ} → Left text l at l' next (a ++ b) → Put a l' next l'' past → Left text l at l'' past b
 left_put {a = a} {b} {l' = l'} {next = next} w p = record {
-  to_stand = rw (p.stands, p.past) (sym (sets_append a b l' next)) ∙ w.to-stand;
-  to_pass = rw p.past (add_assoc next (length a) (length b) ∙ ap (λ (n : ℕ). next + n) (sym (length-append a b)) ∙ w.to-pass);
+  to_stand = rw (p.stands, p.past) (sym (sets_append a b l' next)) ∙ w.to_stand;
+  to_pass = rw p.past (add_assoc next (length a) (length b) ∙ ap (λ (n : ℕ). next + n) (sym (length-append a b)) ∙ w.to_pass);
   same_length = put-length p ∙ w.same_length;
 }
 
 pub left_none : {text l l' : List ℕ} {at next : ℕ} → Left text l at l' next [] → Put text l at l' next
-left_none {next = next} w = record { stands = w.to-stand; past = sym (add-zero next) ∙ w.to-pass }
+left_none {next = next} w = record { stands = w.to_stand; past = sym (add-zero next) ∙ w.to_pass }
 
 -- ---- decimal numbers
 
