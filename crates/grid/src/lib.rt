@@ -13,11 +13,11 @@ ghost use Rattle.grid.specs.Containers.{outside, inner as inner_of, along, Fits,
 use geometry::Position;
 
 // The number of a container.
-#[derive(Drop)]
+#[derive(Clone, Copy)]
 pub struct ContainerKey(pub u64);
 
 // The divisions along each axis: 1 along the third in 2D.
-#[derive(Drop)]
+#[derive(Clone, Copy)]
 pub struct Divisions {
     pub x: u64,
     pub y: u64,
@@ -25,28 +25,28 @@ pub struct Divisions {
 }
 
 // The longest axis found so far, and its length.
-#[derive(Drop)]
+#[derive(Clone, Copy)]
 pub struct Longest {
     pub axis: usize,
     pub delta: f64,
 }
 
 // The container that a position falls into, or that a ratio exceeds its divisions.
-#[derive(Drop)]
+#[derive(Clone, Copy)]
 pub enum Located {
     Key(ContainerKey),
     Exceeds,
 }
 
 // The index of a container along an axis, or that the ratio exceeds its divisions.
-#[derive(Drop)]
+#[derive(Clone, Copy)]
 enum Along {
     Index(u64),
     Exceeds,
 }
 
 // The indices of a container along each axis: 0 along the third in 2D.
-#[derive(Drop)]
+#[derive(Clone, Copy)]
 pub struct Pivot {
     pub i: u64,
     pub j: u64,
