@@ -6,7 +6,7 @@ ghost use Rattle.basics.specs.Lists.{leading};
 ghost use Rattle.lines.specs.Posts.{IsLine};
 
 // Where the line that starts at an index ends, its LF or CR LF left out, and where the next one starts.
-#[derive(Drop)]
+#[derive(Clone, Copy)]
 pub struct Line {
     pub end: usize,
     pub next: usize,

@@ -9,7 +9,7 @@ ghost use Rattle.millimetres.specs.Millimetres.{limit, signed, value_of, decimal
 pub const LIMIT: u64 = 1_048_576_000;
 
 // What `millimetres_of` answers: the millimetres, or that the float is no decimal's value.
-#[derive(Drop)]
+#[derive(Clone, Copy)]
 pub enum Whole {
     Millimetres(i64),
     NoDecimal,

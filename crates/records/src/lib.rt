@@ -5,7 +5,7 @@ ghost use Rattle.std.specs.Prelude.{◌+◌, ◌≤◌, ◌<◌, ◌≡◌, leng
 ghost use Rattle.records.specs.Records.{number_at, float_at, record_at, read_answer, reading};
 
 // A record as it stands in a file: its number, and three floats of any value.
-#[derive(Drop)]
+#[derive(Clone, Copy)]
 pub struct Record {
     pub id: u64,
     pub x: f64,
@@ -14,7 +14,7 @@ pub struct Record {
 }
 
 // What `read_record` answers.
-#[derive(Drop)]
+#[derive(Clone, Copy)]
 pub enum ReadRecord {
     Whole(Record),
     Refused(u64),

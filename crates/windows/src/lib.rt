@@ -21,7 +21,7 @@ const ABOVE: f64 = 1.0000000000001;
 const BELOW: f64 = 0.9999999999999;
 
 // What a square tells: its root, or the root less a radius.
-#[derive(Drop)]
+#[derive(Clone, Copy)]
 pub enum Distance {
     Root,
     RootLess(f64),
@@ -29,7 +29,7 @@ pub enum Distance {
 
 // What is known of the distances that lie from one bound to another: those whose squares are from `low` to `high` do, and
 // those whose squares are up to `under` or from `over` on do not. A NaN tells nothing.
-#[derive(Drop)]
+#[derive(Clone, Copy)]
 pub struct Window {
     pub from: f64,
     pub to: f64,
