@@ -71,8 +71,7 @@ fn write_floats(grid: GridCells, floats: &mut [f64])
 
 // Writes the index of a mesh: its rows, its large cells and two lists. Returns 0, or the first of 1, 24, 13, 19, 3, 8, 9, 20,
 // 21, 18, 23, 22, 6, 17 and 12 that applies, and then writes nothing.
-#[unsafe(no_mangle)]
-pub extern "C" fn gemlab_grid_cells_new(
+pub fn gemlab_grid_cells_new(
     ndim: u64,
     coords: &[f64],
     corners: &[u32],

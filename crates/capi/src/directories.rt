@@ -23,8 +23,7 @@ use table::ItemId;
 
 // Writes the directory of a library's rows, zeros past it to the end of the lists, and its used count, which is not read. Returns
 // 0, or the first of 24, 13 and 12 that applies, and then writes nothing.
-#[unsafe(no_mangle)]
-pub extern "C" fn gemlab_directory_build(
+pub fn gemlab_directory_build(
     numbers: &[u64],
     floats: &[f64],
     keys: &[u64],
@@ -67,8 +66,7 @@ pub extern "C" fn gemlab_directory_build(
 
 // Looks a key up in a directory: found is 1 and place the key's place, or found is 0 and place stays; reads is how many places
 // were read. Returns 0, or the first of 24, 13 and 29 that applies, and then writes nothing.
-#[unsafe(no_mangle)]
-pub extern "C" fn gemlab_directory_look_up(
+pub fn gemlab_directory_look_up(
     numbers: &[u64],
     floats: &[f64],
     keys: &[u64],
@@ -124,8 +122,7 @@ pub extern "C" fn gemlab_directory_look_up(
 
 // Puts a mark into a library as `gemlab_grid_search_insert` does, brings the directory up to date, and writes both new counts.
 // Returns 0, or the first of 24, 13, 29, 2, 3, 11, 17 and 12 that applies, and then writes nothing.
-#[unsafe(no_mangle)]
-pub extern "C" fn gemlab_directory_insert(
+pub fn gemlab_directory_insert(
     numbers: &[u64],
     floats: &[f64],
     keys: &mut [u64],
@@ -179,8 +176,7 @@ pub extern "C" fn gemlab_directory_insert(
 
 // Takes every row of an id out of a library as `gemlab_grid_search_strike` does, brings the directory up to date, and writes both
 // new counts and how many rows went. Returns 0, or the first of 24, 13, 29 and 26 that applies, and then writes nothing.
-#[unsafe(no_mangle)]
-pub extern "C" fn gemlab_directory_strike(
+pub fn gemlab_directory_strike(
     numbers: &[u64],
     floats: &[f64],
     keys: &mut [u64],
@@ -236,8 +232,7 @@ pub extern "C" fn gemlab_directory_strike(
 
 // Tells whether a mark is near a position as `gemlab_grid_search_search` does, through the directory. Returns 0, or the first of
 // 24, 13, 29, 2, 3, 11 and 17 that applies, and then writes nothing.
-#[unsafe(no_mangle)]
-pub extern "C" fn gemlab_directory_search(
+pub fn gemlab_directory_search(
     numbers: &[u64],
     floats: &[f64],
     keys: &[u64],
@@ -292,8 +287,7 @@ pub extern "C" fn gemlab_directory_search(
 
 // Writes the ids of the marks on a place that the filter keeps, and their count, as `gemlab_grid_search_list` does, through the
 // directory. Returns 0, or the first of 24, 13, 29, 16, 2, 3, 15 and 14 that applies, and then writes nothing.
-#[unsafe(no_mangle)]
-pub extern "C" fn gemlab_directory_list(
+pub fn gemlab_directory_list(
     numbers: &[u64],
     floats: &[f64],
     keys: &[u64],

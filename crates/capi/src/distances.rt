@@ -18,21 +18,14 @@ fn told(answer: Measured, distance: &mut f64) -> u64
 }
 
 // Writes the distance between two positions. Returns 0, or the refusal 1, 2 or 3, and then writes nothing.
-#[unsafe(no_mangle)]
-pub extern "C" fn gemlab_point_point_distance(a: &[f64], b: &[f64], distance: &mut f64) -> u64
+pub fn gemlab_point_point_distance(a: &[f64], b: &[f64], distance: &mut f64) -> u64
     ensures { Told (point_point_answer a.now b.now) result distance.old distance.new }
 {
     told(geometry::point_point_distance(a, b), distance)
 }
 
 // Writes the distance of c to the line through a and b. Returns 0, or the refusal 1, 2, 3 or 15, and then writes nothing.
-#[unsafe(no_mangle)]
-pub extern "C" fn gemlab_point_line_distance(
-    a: &[f64],
-    b: &[f64],
-    c: &[f64],
-    distance: &mut f64,
-) -> u64
+pub fn gemlab_point_line_distance(a: &[f64], b: &[f64], c: &[f64], distance: &mut f64) -> u64
     ensures { Told (point_line_answer a.now b.now c.now) result distance.old distance.new }
 {
     told(geometry::point_line_distance(a, b, c), distance)
@@ -40,8 +33,7 @@ pub extern "C" fn gemlab_point_line_distance(
 
 // Writes the signed distance of p to a circle, negative inside. Returns 0, or the refusal 1, 16, 2 or 3, and then writes
 // nothing.
-#[unsafe(no_mangle)]
-pub extern "C" fn gemlab_point_circle_distance(
+pub fn gemlab_point_circle_distance(
     center: &[f64],
     radius: f64,
     p: &[f64],
@@ -54,8 +46,7 @@ pub extern "C" fn gemlab_point_circle_distance(
 
 // Writes the signed distance of p to a cylinder, negative inside. Returns 0, or the refusal 1, 16, 2, 3 or 15, and then
 // writes nothing.
-#[unsafe(no_mangle)]
-pub extern "C" fn gemlab_point_cylinder_distance(
+pub fn gemlab_point_cylinder_distance(
     a: &[f64],
     b: &[f64],
     radius: f64,

@@ -79,8 +79,7 @@ fn index_of(numbers: &[u64], floats: &[f64]) -> GridCells
 
 // Tells whether a cell contains a position: found is 1, cell its number and zeta its coordinates there, or found is 0 and
 // both stay. Returns 0, or the first of 1, 24, 19, 13, 25, 2, 3, 11 and 17 that applies, and then writes nothing.
-#[unsafe(no_mangle)]
-pub extern "C" fn gemlab_grid_cells_search(
+pub fn gemlab_grid_cells_search(
     numbers: &[u64],
     floats: &[f64],
     coords: &[f64],

@@ -1,5 +1,6 @@
-// The C interface: numbers and plain slices in, one call, numbers out. `include/gemlab.h` says what each function
-// means to its caller; each contract says that the number returned and everything lent are those of the call's definition.
+// The C interface, as Rattle calls it: numbers and plain slices in, one call, numbers out. `include/gemlab.h` says what each
+// function means to its caller; each contract says that the number returned and everything lent are those of the call's
+// definition. `capi_c` shows the same to C.
 #![tactic(auto)]
 
 mod cells;
@@ -11,7 +12,7 @@ mod lists;
 mod sheet;
 mod survey;
 
-// for Rattle programs
+// for Rattle programs, and for `capi_c`
 pub use cells::gemlab_grid_cells_new;
 pub use directories::{
     gemlab_directory_build, gemlab_directory_insert, gemlab_directory_list,

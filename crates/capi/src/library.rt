@@ -15,8 +15,7 @@ use table::ItemId;
 
 // Puts a mark into its own container and those of its halo corners, and writes the new count. Returns 0, or the first of 24,
 // 13, 2, 3, 11, 17 and 12 that applies, and then writes nothing.
-#[unsafe(no_mangle)]
-pub extern "C" fn gemlab_grid_search_insert(
+pub fn gemlab_grid_search_insert(
     numbers: &[u64],
     floats: &[f64],
     keys: &mut [u64],
@@ -46,8 +45,7 @@ pub extern "C" fn gemlab_grid_search_insert(
 
 // Takes every row of an id out of the library, and writes the new count and how many rows went. Returns 0, or the first of 24,
 // 13 and 26 that applies, and then writes nothing.
-#[unsafe(no_mangle)]
-pub extern "C" fn gemlab_grid_search_strike(
+pub fn gemlab_grid_search_strike(
     numbers: &[u64],
     floats: &[f64],
     keys: &mut [u64],
@@ -81,8 +79,7 @@ pub extern "C" fn gemlab_grid_search_strike(
 // Checks the rows of a library, each once up to the first bad one: broken is 1 and row the lowest row that breaks 13 by itself or
 // is not above the row before it, or broken is 0 and row stays; visited is how many rows were visited. Returns 0, or the first of
 // 24 and 13 that applies (the sheet, the lengths of the lists, the used count), and then writes nothing.
-#[unsafe(no_mangle)]
-pub extern "C" fn gemlab_grid_search_check(
+pub fn gemlab_grid_search_check(
     numbers: &[u64],
     floats: &[f64],
     keys: &[u64],
@@ -119,8 +116,7 @@ pub extern "C" fn gemlab_grid_search_check(
 
 // Tells whether a mark is near a position: found is 1 and id the nearest one, the lowest among equally near ones, or found
 // is 0 and id stays. Returns 0, or the first of 24, 13, 2, 3, 11 and 17 that applies, and then writes nothing.
-#[unsafe(no_mangle)]
-pub extern "C" fn gemlab_grid_search_search(
+pub fn gemlab_grid_search_search(
     numbers: &[u64],
     floats: &[f64],
     keys: &[u64],

@@ -28,8 +28,7 @@ pub(crate) fn filter_of(filter: u64, axis: u64, low: f64, high: f64) -> Filter
 
 // Writes the ids of the marks on a place that the filter keeps, ascending and once each, and their count. Returns 0, or the
 // first of 24, 13, 16, 2, 3, 15 and 14 that applies, and then writes nothing.
-#[unsafe(no_mangle)]
-pub extern "C" fn gemlab_grid_search_list(
+pub fn gemlab_grid_search_list(
     numbers: &[u64],
     floats: &[f64],
     keys: &[u64],

@@ -112,8 +112,7 @@ fn write_floats(s: GridSearch, floats: &mut [f64])
 
 // Writes the sheet that the corners and settings give into two lists. Returns 0, or 13 for lists of another length, or the
 // refusal 1 to 10, and then writes nothing.
-#[unsafe(no_mangle)]
-pub extern "C" fn gemlab_grid_search_new(
+pub fn gemlab_grid_search_new(
     xmin: &[f64],
     xmax: &[f64],
     ndiv_given: u64,

@@ -10,8 +10,7 @@ use survey_import::Imported;
 
 // Writes the marks of a text and their count. Returns 0, or the first of 24, 13, 27 and 12 that applies, and then writes nothing
 // but, where it is 27, the first bad line, counted from 1.
-#[unsafe(no_mangle)]
-pub extern "C" fn gemlab_survey_import(
+pub fn gemlab_survey_import(
     text: &[u8],
     ids: &mut [u64],
     xs: &mut [f64],
@@ -39,8 +38,7 @@ pub extern "C" fn gemlab_survey_import(
 
 // Writes the text of the marks in use and its length. Returns 0, or the first of 24, 13, 28 and 14 that applies, and then writes
 // nothing.
-#[unsafe(no_mangle)]
-pub extern "C" fn gemlab_survey_export(
+pub fn gemlab_survey_export(
     ids: &[u64],
     xs: &[f64],
     ys: &[f64],

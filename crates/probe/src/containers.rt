@@ -36,7 +36,7 @@ pub extern "C" fn probe_container_key(
     xmin: &[f64],
     x: &[f64],
 ) -> u64
-    ensures { result ≡ key_probed ndim (record { x = nx; y = ny; z = nz }) side_length (position_of xmin.now) (position_of x.entry.now) }
+    ensures { result ≡ key_probed ndim (record { x = nx; y = ny; z = nz }) side_length (position_of xmin.now) (position_of x.now) }
 {
     let ndiv = Divisions {
         x: nx,
