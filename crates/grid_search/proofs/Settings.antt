@@ -104,9 +104,9 @@ module _ (lo hi : List Float) (number : GivenU64) (tolerance border : GivenF64) 
   of_settings e =
       let a = tests_passed lo hi number tolerance border e in
       let l = limited lo hi (tolerance_of tolerance) (border_of border) a.limits in
-      let b = between-upto 10 (border_of border) l.border-finite l.border-most a.bordered in
-      let t = between-upto 10 (tolerance_of tolerance) l.tolerance-finite l.tolerance-most (below-zero (tolerance_of tolerance) a.tolerated) in
-      let ta = above_zero (tolerance_of tolerance) l.tolerance-finite a.tolerated in
+      let b = between-upto 10 (border_of border) l.border_finite l.border_most a.bordered in
+      let t = between-upto 10 (tolerance_of tolerance) l.tolerance_finite l.tolerance_most (below-zero (tolerance_of tolerance) a.tolerated) in
+      let ta = above_zero (tolerance_of tolerance) l.tolerance_finite a.tolerated in
       let nl = divisions-length (number_of number) lo hi a.lengths in
       let xl = lowered-length (border_of border) lo in
       let g = divisions-good (number_of number) lo hi (omega (arith, a.least)) a.most a.order in
@@ -124,7 +124,7 @@ module _ (lo hi : List Float) (number : GivenU64) (tolerance border : GivenF64) 
         xmin = x;
         xmax = covered_sized side_from xmin_from divisions_from w x g;
         side = w;
-        side_above_zero = side_above side_from (tolerance_of tolerance) (upto-finite 2099200 side_from w) l.tolerance-finite ta a.wide;
+        side_above_zero = side_above side_from (tolerance_of tolerance) (upto-finite 2099200 side_from w) l.tolerance_finite ta a.wide;
         near = near_sized (diagonal (length lo)) (tolerance_of tolerance) d t;
         radius = radius_sized (diagonal (length lo)) side_from d w;
       }

@@ -13,21 +13,21 @@ use geometry::Position;
 use grid::Divisions;
 
 // A setting that is a number: given, or left out.
-#[derive(Drop)]
+#[derive(Clone, Copy)]
 pub enum GivenU64 {
     LeftOut,
     Given(u64),
 }
 
 // A setting that is a float: given, or left out.
-#[derive(Drop)]
+#[derive(Clone, Copy)]
 pub enum GivenF64 {
     LeftOut,
     Given(f64),
 }
 
 // The sheet. In 2D every third coordinate is +0 and the third division 1.
-#[derive(Drop)]
+#[derive(Clone, Copy)]
 pub struct GridSearch {
     // the settings: dimension, corners, divisions of the longest axis, tolerance, border
     pub ndim: usize,
@@ -46,7 +46,7 @@ pub struct GridSearch {
 }
 
 // What `GridSearch::new` answers.
-#[derive(Drop)]
+#[derive(Clone, Copy)]
 pub enum Made {
     Sheet(GridSearch),
     Refused(u64),
