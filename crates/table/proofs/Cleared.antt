@@ -38,11 +38,11 @@ module _ {A : Type 0} (v : A) where
   clearing_next {from} {i} {s} {now} g h = record {
     least = omega (arith, g.least);
     long = length-set now i v ∙ g.long;
-    same_in_the_end = cleared-next now i h ∙ g.same-in-the-end;
+    same_in_the_end = cleared-next now i h ∙ g.same_in_the_end;
   }
 
   pub clearing_end : {from i : ℕ} {s now : List A} → Clearing from i s now → length now ≤ i → now ≡ cleared v from s
-  clearing_end {from} {i} {s} {now} g h = sym (cleared_end now i h) ∙ g.same-in-the-end
+  clearing_end {from} {i} {s} {now} g h = sym (cleared_end now i h) ∙ g.same_in_the_end
 
   all-cleared : (now old : List A) → length now ≡ length old → cleared v 0 now ≡ map (λ (x : A). v) old
   unfolding cleared

@@ -27,7 +27,7 @@ key-le p q b = ⊎_elim (λ h. omega arith) (λ h. omega arith) (before_lex p q 
 pub rising : {keys ids : List ℕ} {used : ℕ} → Ordered keys ids used → Rising keys used
 unfolding slots_of
 rising {keys} {ids} {used} o = record {
-  room = o.in-keys;
+  room = o.in_keys;
   rise = λ i j h k.
       ⊎_elim (λ e. subst (λ (m : ℕ). get_or keys i 0 ≤ get_or keys m 0) e (omega arith))
       (λ l. key-le (slot_at keys ids i) (slot_at keys ids j) (sorted_at used (slot_at keys ids) o.order i j l k))

@@ -55,7 +55,7 @@ pub row_for-among : (r : Row) (rows : List Row) → sorted (map slot_of rows) �
 unfolding sorted row_for
 row_for-among r [] o m = absurd (Memᴰ.not-nil m)
 row_for-among r (s ∷ rest) o m =
-    ⊎_elim (λ (e : r ≡ s). rw e (here s rest))
+    ⊎_elim (λ (e : r ≡ s). subst (λ (q : Row). row_for (slot_of q) (s ∷ rest) ≡ some q) (sym e) (here s rest))
     (λ (k : Memᴰ r rest).
     let found = row_for-among r rest (chain-sorted (slot_of s) (map slot_of rest) o) k in
     by_test (same (slot_of s) (slot_of r))
