@@ -1,0 +1,13 @@
+-- `mesh::lower` meets its contract. Assumes nothing.
+use Rattle.std.proofs.Common.{[], ◌∷◌}
+use Rattle.floats.specs.Tests.{min_of}
+use Rattle.basics.specs.Lists.{zip_with}
+use Rattle.basics.proofs.Lists.{take_zip}
+use Rattle.mesh.proofs.lower.Goals as goal
+
+pub returns : goal.returns
+unfolding zip_with
+returns c =
+    λ n. let s = c.args in
+    rw (c.min.ensures, c.min-2.ensures, c.min-3.ensures)
+    (take_zip min_of n (s.p.x ∷ s.p.y ∷ s.p.z ∷ []) (s.q.x ∷ s.q.y ∷ s.q.z ∷ []))
