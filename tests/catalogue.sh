@@ -7,9 +7,9 @@ unset CDPATH
 cd "$(dirname "$0")/.."
 exec 3>&1
 cases=$PWD/tests/catalogue.cases
-program=$PWD/target/bin/catalogue
+program=$PWD/crates/catalogue/out/catalogue
 data=$PWD/crates/catalogue/data
-said=$(rt check catalogue 2>&1) || {
+said=$(cd crates/catalogue && rt run 2>&1 >/dev/null </dev/null) || {
     echo "$said"
     exit 1
 }

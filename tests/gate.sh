@@ -33,7 +33,8 @@ for step in $steps staticlib; do
     stub "$tree/$step" 'echo said'
 done
 # shellcheck disable=SC2016
-stub "$work/bin/rt" 'echo "${SAYS-3 passed, 0 failed}"; echo "$*" >>"${CALLS-/dev/null}"'
+stub "$work/bin/rt" 'echo "${TOLD-rt: ok; handles allowed: none; must-fail edits: 10 refused; every proof was done}"
+echo "${SAYS-3 passed, 0 failed}"; echo "$*" >>"${CALLS-/dev/null}"'
 failed=0
 
 # gives STATUS LINE [VARIABLE=VALUE..]: what ./test has to end with.
@@ -64,7 +65,23 @@ gives 1 "test: FAILED: $(called tests/public.sh), $(called examples/run.sh)" 'FA
 gives 1 'test: FAILED: static libraries' 'FAIL=./staticlib'
 gives 1 "test: FAILED: $(called verdict)" 'SAYS=3 passed, 1 failed'
 gives 1 "test: FAILED: $(called verdict)" 'SAYS=0 passed, 0 failed'
-gives 1 "test: FAILED: $(called verdict), layout" 'FAIL=bin/rt'
+gives 1 "test: FAILED: $(called verdict)" 'FAIL=bin/rt'
+gives 1 "test: FAILED: $(called verdict)" 'SAYS=3 passed, 0 failed (floats alone)'
+# edits that are bad, and a verdict that says nothing of them
+ok='rt: ok; handles allowed: none; must-fail edits: 10 refused'
+gives 0 '3 passed, 0 failed' "TOLD=$ok, 2 of them only by a limit; every proof was done"
+for bad in 1 10; do
+    gives 1 "test: FAILED: $(called verdict)" "TOLD=$ok, $bad bad; every proof was done"
+    gives 1 "test: FAILED: $(called verdict)" "TOLD=$ok, 2 of them only by a limit, $bad bad; every proof was done"
+done
+gives 1 "test: FAILED: $(called verdict)" 'TOLD=rt: FAILED: floats'
+# rt ci is called once, for every crate, and before any other rt
+: >"$work/calls"
+gives 0 '3 passed, 0 failed' "CALLS=$work/calls"
+[ "$(cat "$work/calls")" = ci ] || {
+    echo "gate: rt was called otherwise: $(cat "$work/calls")"
+    failed=1
+}
 # gemlab's source is looked for before anything is proved
 for folder in "$work/gemlab/src" "$work/none"; do
     : >"$work/calls"

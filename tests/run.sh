@@ -110,36 +110,42 @@ tell 'no kit' 1 nothing 'run: the command rt' env PATH=/nowhere "$root/run"
 mkdir kit
 cat >kit/rt <<'TEXT'
 #!/bin/sh
-echo 'rt: basics proved (unchanged since it was last proved)'
-echo 'rt: floats proved (13 s)'
-echo 'fn floats::sqrt: proved'
-exit "$(cat status)"
+{
+    echo 'fn floats::sqrt: proved'
+    echo 'crate floats: modules loaded=0 checked=33'
+    echo 'logic=proved functions=13 sum=1'
+} >&2
+echo 'what the program prints where the kit runs it'
+exit "$(cat ../../given)"
 TEXT
 chmod +x kit/rt
-echo 'rt: floats proved (13 s)' >shown
+echo 'run: floats is proved (functions: 13)' >shown
 for status in 0 1; do
-    mkdir -p "copy$status/target/bin" "copy$status/crates"
+    mkdir -p "copy$status/crates"
     cp "$root/run" "copy$status"
-    cp "$root/target/bin/catalogue" "$root/target/bin/survey" "copy$status/target/bin"
-    cp -R "$root/crates/catalogue" "copy$status/crates"
-    echo $status >"copy$status/status"
+    for program in catalogue survey; do
+        mkdir -p "copy$status/crates/$program/out"
+        cp "$root/crates/$program/out/$program" "copy$status/crates/$program/out"
+    done
+    cp -R "$root/crates/catalogue/data" "copy$status/crates/catalogue"
+    echo $status >"copy$status/given"
 done
-tell 'what is proved' 0 "$sample" 'rt: floats proved (13 s)' env PATH="$work/kit:$PATH" copy0/run
+tell 'what is proved' 0 "$sample" 'run: floats is proved (functions: 13)' env PATH="$work/kit:$PATH" copy0/run
 tell 'nothing but what is proved' 0 "$sample" '' sh -c "PATH='$work/kit':\$PATH copy0/run 2>told; cmp -s told shown || cat told >&2"
-tell 'a call from its own folder' 0 "$sample" 'rt: floats' env PATH="$work/kit:$PATH" sh -c 'cd copy0 && exec sh run'
+tell 'a call from its own folder' 0 "$sample" 'run: floats' env PATH="$work/kit:$PATH" sh -c 'cd copy0 && exec sh run'
 # cd looks into CDPATH first, and then prints where it went
 mkdir -p elsewhere/plain elsewhere/copy0
-tell 'CDPATH and the sample' 0 "$sample" 'rt: floats' env PATH="$work/kit:$PATH" CDPATH="$work/elsewhere" copy0/run
-tell 'CDPATH and a folder' 0 "$sample" 'rt: floats' env PATH="$work/kit:$PATH" CDPATH="$work/elsewhere" copy0/run plain
+tell 'CDPATH and the sample' 0 "$sample" 'run: floats' env PATH="$work/kit:$PATH" CDPATH="$work/elsewhere" copy0/run
+tell 'CDPATH and a folder' 0 "$sample" 'run: floats' env PATH="$work/kit:$PATH" CDPATH="$work/elsewhere" copy0/run plain
 tell 'all that is said where a proof fails' 1 nothing 'fn floats::sqrt: proved' env PATH="$work/kit:$PATH" copy1/run
 tell 'that a proof failed' 1 nothing 'run: the catalogue is not proved' env PATH="$work/kit:$PATH" copy1/run
 
-tell 'what is proved of survey' 0 "$surveyed" 'rt: floats proved (13 s)' env PATH="$work/kit:$PATH" copy0/run survey marks.csv
+tell 'what is proved of survey' 0 "$surveyed" 'run: floats is proved (functions: 13)' env PATH="$work/kit:$PATH" copy0/run survey marks.csv
 tell 'that a proof of survey failed' 1 nothing 'run: the program survey is not proved' env PATH="$work/kit:$PATH" copy1/run survey marks.csv
 
-rm copy0/target/bin/catalogue
+rm copy0/crates/catalogue/out/catalogue
 tell 'that minutes of proving start' 1 nothing 'run: proving the catalogue' env PATH="$work/kit:$PATH" copy0/run
-tell 'that there is no program' 1 nothing 'run: rt built no target/bin/catalogue' env PATH="$work/kit:$PATH" copy0/run
+tell 'that there is no program' 1 nothing 'run: rt built no crates/catalogue/out/catalogue' env PATH="$work/kit:$PATH" copy0/run
 
 echo "run: $tried calls, $failed wrong"
 [ "$failed" -eq 0 ]

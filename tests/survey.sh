@@ -7,12 +7,14 @@ set -eu
 unset CDPATH
 cd "$(dirname "$0")/.."
 root=$PWD
-program=$root/target/bin/survey
+program=$root/crates/survey/out/survey
 sample=$root/examples/marks.csv
-said=$(rt check survey catalogue 2>&1) || {
-    echo "$said"
-    exit 1
-}
+for name in survey catalogue; do
+    said=$(cd "crates/$name" && rt run 2>&1 >/dev/null </dev/null) || {
+        echo "$said"
+        exit 1
+    }
+done
 work=$(mktemp -d)
 trap 'rm -rf "$work"' EXIT
 cd "$work"
@@ -71,7 +73,7 @@ catalogue() {
             print 100, high[2], high[3], high[4] >"files/sheet.txt"
         }' "$1"
     "$root/records" pack files
-    (cd files && timeout 10 "$root/target/bin/catalogue") >expected
+    (cd files && timeout 10 "$root/crates/catalogue/out/catalogue") >expected
 }
 
 # ---- the sample: the example for users is what rt runs the program on
