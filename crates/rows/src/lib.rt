@@ -25,7 +25,7 @@ use table::ItemId;
 const MAX_ROWS: usize = 65536;
 
 // What `insert` answers: how many rows are in use now, or the refusal.
-#[derive(Drop)]
+#[derive(Clone, Copy)]
 pub enum Inserted {
     Stored(usize),
     Refused(u64),
@@ -33,7 +33,7 @@ pub enum Inserted {
 
 // What `check_library` answers: the lowest bad row, and how many rows were visited up to it, that one too; how many were visited, none
 // of them bad; or the refusal.
-#[derive(Drop)]
+#[derive(Clone, Copy)]
 pub enum Walked {
     Bad(usize, usize),
     Sound(usize),
@@ -329,7 +329,7 @@ fn find_targets(sheet: GridSearch, into: &mut [u64], x: Position) -> usize
 }
 
 // What is to be done with a mark: it goes into the first so many of the containers found, or is refused.
-#[derive(Drop)]
+#[derive(Clone, Copy)]
 pub enum Judged {
     Into(usize),
     Refused(u64),
