@@ -17,7 +17,7 @@ use grid::{Divisions, Located};
 use mesh::BoundingBox;
 
 // Where the containers of an index lie.
-#[derive(Drop)]
+#[derive(Clone, Copy)]
 pub struct Containers {
     pub ndim: usize,
     pub ndiv: Divisions,
@@ -26,7 +26,7 @@ pub struct Containers {
 }
 
 // The keys of a cell's containers, so many of them, or that a corner's ratio exceeds its divisions.
-#[derive(Drop)]
+#[derive(Clone, Copy)]
 pub enum Keys {
     Count(usize),
     TooFar,

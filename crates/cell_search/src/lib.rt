@@ -23,7 +23,7 @@ use grid_cells::{CellId, GridCells};
 use mesh::BoundingBox;
 
 // What a cell search answers.
-#[derive(Drop)]
+#[derive(Clone, Copy)]
 pub enum FoundCell {
     Cell(CellId),
     Nothing,
@@ -31,14 +31,14 @@ pub enum FoundCell {
 }
 
 // The container to look into, or why there is none.
-#[derive(Drop)]
+#[derive(Clone, Copy)]
 enum Asked {
     In(ContainerKey),
     Refused(u64),
 }
 
 // The entries of a list from one index up to another.
-#[derive(Drop)]
+#[derive(Clone, Copy)]
 struct Span {
     from: usize,
     to: usize,

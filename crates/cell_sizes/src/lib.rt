@@ -11,7 +11,7 @@ ghost use Rattle.cell_sizes.specs.Steps.{Widened, Around, counted as counted_by,
 use mesh::BoundingBox;
 
 // The settings of a build of a cell index, each as given or by default.
-#[derive(Drop)]
+#[derive(Clone, Copy)]
 pub struct Settings {
     pub tolerance: f64,
     pub border_tol: f64,
@@ -20,14 +20,14 @@ pub struct Settings {
 }
 
 // The box around cells, and the largest length of any.
-#[derive(Drop)]
+#[derive(Clone, Copy)]
 pub struct Extent {
     pub limits: BoundingBox,
     pub largest: f64,
 }
 
 // How many cells are large and how many are not, and the largest length of those that are not.
-#[derive(Drop)]
+#[derive(Clone, Copy)]
 pub struct Census {
     pub large: usize,
     pub small: usize,
@@ -35,7 +35,7 @@ pub struct Census {
 }
 
 // What the cells of a mesh measure.
-#[derive(Drop)]
+#[derive(Clone, Copy)]
 pub struct Sizes {
     pub limits: BoundingBox,
     // a cell from this length on is large

@@ -19,12 +19,12 @@ use grid::Divisions;
 use grid_search::GivenF64;
 
 // The number of a cell.
-#[derive(Drop)]
+#[derive(Clone, Copy)]
 pub struct CellId(pub u64);
 
 // The index: its rows (key, cell) and its large cells stand in lent slices. In 2D every third coordinate that the build
 // writes is +0 and the third division 1.
-#[derive(Drop)]
+#[derive(Clone, Copy)]
 pub struct GridCells {
     pub ndim: usize,
     pub ndiv: Divisions,
@@ -37,7 +37,7 @@ pub struct GridCells {
 }
 
 // What `GridCells::new` answers.
-#[derive(Drop)]
+#[derive(Clone, Copy)]
 pub enum Built {
     Index(GridCells),
     Refused(u64),

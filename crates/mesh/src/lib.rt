@@ -14,7 +14,7 @@ ghost use Rattle.mesh.specs.Cell.{cell_zeta};
 use geometry::{Position, Zeta};
 
 // The least and the greatest coordinate of a cell's corners on each axis.
-#[derive(Drop)]
+#[derive(Clone, Copy)]
 pub struct BoundingBox {
     pub low: Position,
     pub high: Position,

@@ -12,7 +12,7 @@ use grid_cells::{Built, GridCells};
 use grid_search::GivenF64;
 
 // A mesh in two lent lists, and its dimension. Each list has a lifetime of its own.
-#[derive(Drop)]
+#[derive(Clone, Copy)]
 pub struct Mesh<'a, 'b> {
     pub ndim: usize,
     pub coords: &'a [f64],
