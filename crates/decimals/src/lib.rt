@@ -12,14 +12,14 @@ ghost use Rattle.decimals.specs.Posts.{digits_in, decimals_in, thousandths_in};
 const LARGEST: u64 = 18_446_744_073_709_551_615;
 
 // What `read_number` answers.
-#[derive(Drop)]
+#[derive(Clone, Copy)]
 pub enum ReadNumber {
     Number(u64),
     Malformed,
 }
 
 // What `read_coordinate` answers.
-#[derive(Drop)]
+#[derive(Clone, Copy)]
 pub enum ReadCoordinate {
     Millimetres(i64),
     Malformed,
