@@ -4,14 +4,15 @@
 
 ghost use Rattle.std.specs.Prelude.{take, ◌≡◌, true};
 ghost use Rattle.basics.specs.Refusals.{success};
-ghost use Rattle.io.specs.Counts.{IsPrefixLen};
 ghost use Rattle.grid_search.specs.Sheet.{made, sheet_ok};
+ghost use Rattle.files.specs.Counts.{IsPrefixLen};
 ghost use Rattle.catalogue.specs.Printed.{GoodSheet, Judged, Printed};
 
 use grid_search::{GridSearch, Made};
+use std::rt::Files;
 
 // What is printed of a good sheet and `marks.bin`, whose records have 32 bytes.
-fn put_marks(sheet: GridSearch, text: &mut [u8; 70804]) -> usize
+fn put_marks(rt: &impl Files, sheet: GridSearch, text: &mut [u8; 70804]) -> usize
     requires { sheet_ok sheet ≡ true }
     ensures prefix_len { IsPrefixLen result text.new }
     ensures judged { Judged (success sheet) (take result text.new) }
@@ -22,6 +23,7 @@ fn put_marks(sheet: GridSearch, text: &mut [u8; 70804]) -> usize
     let mut ys = [0.0f64; 1024];
     let mut zs = [0.0f64; 1024];
     let answer = files::insert_file(
+        rt,
         b"marks.bin",
         32,
         sheet,
@@ -35,30 +37,32 @@ fn put_marks(sheet: GridSearch, text: &mut [u8; 70804]) -> usize
 }
 
 // What is printed after `sheet.bin` gave this sheet. Where it is refused, `marks.bin` is not looked at.
-fn put_catalogue(sheet: Made, text: &mut [u8; 70804]) -> usize
+fn put_catalogue(rt: &impl Files, sheet: Made, text: &mut [u8; 70804]) -> usize
     requires { GoodSheet sheet }
     ensures prefix_len { IsPrefixLen result text.new }
     ensures judged { Judged (made sheet) (take result text.new) }
 {
     match sheet {
-        Made::Sheet(good) => put_marks(good, text),
+        Made::Sheet(good) => put_marks(rt, good, text),
         Made::Refused(number) => outcome::put_refused(number, text),
     }
 }
 
 // What is printed of the two files: it stands at the front of the buffer.
-fn put_text(text: &mut [u8; 70804]) -> usize
+fn put_text(rt: &impl Files, text: &mut [u8; 70804]) -> usize
     ensures prefix_len { IsPrefixLen result text.new }
     ensures printed { Printed (take result text.new) }
 {
-    let sheet = files::read_sheet(b"sheet.bin");
-    put_catalogue(sheet, text)
+    let sheet = files::read_sheet(rt, b"sheet.bin");
+    put_catalogue(rt, sheet, text)
 }
 
-fn main() {
+fn main(rt: HostRuntime) {
     let mut text = [0u8; 70804];
-    let n = put_text(&mut text);
+    let n = put_text(&rt, &mut text);
     files::write_text(
+        &rt.stdout(),
+        &rt.stderr(),
         &text[..n],
         b"catalogue: the text could not be written whole\n",
     );

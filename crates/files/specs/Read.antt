@@ -12,7 +12,7 @@ use Rattle.rows.specs.declared.Inserted.TheVariants as insert
 use Rattle.table.specs.Library.{Library}
 use Rattle.rows.specs.Insert.{inserted}
 use Rattle.loading.specs.Loading.{sheet_in, insert_bytes, Inserts}
-use Rattle.io.specs.Counts.{IsPrefixLen}
+use Rattle.files.specs.Counts.{IsPrefixLen}
 use Rattle.files.specs.declared.Input.{Input}
 use Rattle.files.specs.declared.Input.TheVariants.{Whole}
 use Rattle.files.specs.declared.Part.{Part}

@@ -1,22 +1,27 @@
 // Files and standard input that a program reads, and text that it writes. What a file holds is decided by what the calls on it answered, each
-// decision in a function of its own with an exact contract; so a call is made whatever the one before it answered: where a file
-// cannot be opened, reading it fails too, and that is handed over.
+// decision in a function of its own with an exact contract; and each is asked whatever the call before it answered: where a
+// file cannot be opened, reading it fails too, and that is handed over.
 //
 // `opened` is what opening a file answered, below 0 where it cannot be opened; `after` is what reading on after the bytes that
 // came answered: 0 at the end, the number of bytes where more follow, below 0 where it fails.
 #![tactic(auto)]
 
-ghost use Rattle.std.specs.Prelude.{◌≤◌, ◌<◌, ◌≡◌, length, take};
+ghost use Rattle.std.specs.Prelude.{◌≤◌, ◌<◌, ◌≡◌, length, take, IfSome, MatchOption};
+ghost use Rattle.std.specs.Io.KnownBytes.{Consumes, Keeps};
 ghost use Rattle.grid_search.specs.Sheet.{made};
 ghost use Rattle.table.specs.Library.{library};
 ghost use Rattle.rows.specs.Insert.{inserted};
 ghost use Rattle.loading.specs.Loading.{sheet_in};
+ghost use Rattle.files.specs.Counts.{IsPrefixLen};
 ghost use Rattle.files.specs.Files.{all_came, content, part_length, part_of, marks_answer, input_of, said};
 ghost use Rattle.files.specs.Read.{SheetRead, PartRead, MarksRead, Came};
 
 use grid_search::{GridSearch, Made};
-use libc::{STDERR_FILENO, STDIN_FILENO, STDOUT_FILENO};
 use rows::Inserted;
+use std::fs::File;
+use std::io;
+use std::io::{ErrorKind, Print, Read};
+use std::rt::Files;
 
 // What comes after a part of the marks: more of them, with this number of rows in use; the end of the file, likewise; or nothing,
 // since a mark was turned away or bytes are left over.
@@ -28,7 +33,7 @@ pub enum Part {
 }
 
 // What standard input holds: this number of bytes; more than a program takes; or it cannot be read.
-#[derive(Drop)]
+#[derive(Clone, Copy)]
 pub enum Input {
     Whole(usize),
     Longer,
@@ -108,27 +113,80 @@ pub fn said_of(written: bool, line: &[u8]) -> usize
     if written { 0 } else { line.len() }
 }
 
+// The file of this name: none where it cannot be opened. A name in `std` is UTF-8, so none has another name.
+fn open<R: Files>(rt: &R, name: &[u8]) -> Option<R::File> {
+    match std::str::from_utf8(name) {
+        Ok(path) => File::open(rt, path).ok(),
+        Err(_) => None,
+    }
+}
+
+// One read, made again where a signal interrupts it: how many bytes came, or none where it fails.
+fn read_some<R: Read>(reader: &mut R, bytes: &mut [u8]) -> Option<usize>
+    ensures count { IfSome result (λ n. IsPrefixLen n bytes.new) }
+    ensures read { MatchOption result (Keeps (R.remaining reader.old) (R.remaining reader.new))
+        (λ n. Consumes (R.remaining reader.old) (R.remaining reader.new) (take n bytes.new)) }
+{
+    for _ in 0..u64::MAX {
+        match reader.read(bytes) {
+            Ok(n) => return Some(n),
+            Err(e) => {
+                if e.kind() != ErrorKind::Interrupted {
+                    return None;
+                }
+            }
+        }
+    }
+    None
+}
+
+// Reads until the buffer is full, the bytes end or reading fails: how many came.
+fn read_full<R: Read>(reader: &mut R, bytes: &mut [u8]) -> usize
+    ensures count { IsPrefixLen result bytes.new }
+    ensures read { Consumes (R.remaining reader.old) (R.remaining reader.new) (take result bytes.new) }
+{
+    let mut done = 0;
+    while done < bytes.len() {
+        match read_some(reader, &mut bytes[done..]) {
+            None | Some(0) => return done,
+            Some(n) => done += n,
+        }
+    }
+    done
+}
+
 // What reading on answers.
-fn read_on(fd: i32) -> isize {
+fn read_on<R: Read>(reader: &mut R) -> isize {
     let mut byte = [0u8; 1];
-    libc::read(fd, &mut byte)
+    match read_some(reader, &mut byte) {
+        Some(n) => n as isize,
+        None => -1,
+    }
+}
+
+// The sheet of a file that was opened: two records.
+fn sheet_of_reader<R: Read>(reader: &mut R) -> Made
+    ensures { SheetRead result }
+{
+    let mut bytes = [0u8; 64];
+    let n = read_full(reader, &mut bytes);
+    let after = read_on(reader);
+    sheet_of_file(0, &bytes[..n], after)
 }
 
 // The sheet of the file of this name: two records.
-pub fn read_sheet(name: &[u8]) -> Made
+pub fn read_sheet(rt: &impl Files, name: &[u8]) -> Made
     ensures { SheetRead result }
 {
-    let fd = os::open_read(name);
-    let mut bytes = [0u8; 64];
-    let n = io::read_full(fd, &mut bytes);
-    let after = read_on(fd);
-    libc::close(fd);
-    sheet_of_file(fd, &bytes[..n], after)
+    match open(rt, name) {
+        Some(mut file) => sheet_of_reader(&mut file),
+        None => sheet_of_file(-1, b"", -1),
+    }
 }
 
 // Inserts the marks of the next records of a file.
-fn insert_part(
-    fd: i32,
+fn insert_part<R: Read>(
+    reader: &mut R,
     width: usize,
     sheet: GridSearch,
     keys: &mut [u64; 1024],
@@ -141,17 +199,17 @@ fn insert_part(
     ensures { PartRead width sheet (library keys.old ids.old xs.old ys.old zs.old used)
         result (library keys.new ids.new xs.new ys.new zs.new) }
 {
-    let mut bytes = io::large_buffer();
+    let mut bytes = [0u8; 65536];
     let asked = part_length(width);
-    let n = io::read_full(fd, &mut bytes[..asked]);
+    let n = read_full(reader, &mut bytes[..asked]);
     let answer = loading::insert_records(sheet, keys, ids, xs, ys, zs, used, &bytes[..n], width);
     part_of(n, asked, answer)
 }
 
 // Inserts the marks of an open file part by part. A proved loop has to end, and nothing says that a file does: so the loop
 // counts its turns down, from a number that no file uses up.
-fn insert_parts(
-    fd: i32,
+fn insert_parts<R: Read>(
+    reader: &mut R,
     width: usize,
     sheet: GridSearch,
     keys: &mut [u64; 1024],
@@ -167,12 +225,12 @@ fn insert_parts(
     let mut used = 0;
     let mut turns = u64::MAX;
     while turns > 0 {
-        let part = insert_part(fd, width, sheet, keys, ids, xs, ys, zs, used);
+        let part = insert_part(reader, width, sheet, keys, ids, xs, ys, zs, used);
         match part {
             Part::More(rows) => used = rows,
             Part::Last(rows) => {
-                let after = read_on(fd);
-                return marks_answer(fd, after, rows);
+                let after = read_on(reader);
+                return marks_answer(0, after, rows);
             }
             Part::Refused(number) => return Inserted::Refused(number),
         }
@@ -184,6 +242,7 @@ fn insert_parts(
 // Inserts the marks of the file of this name, whose records have this width, into a library with no row in use. 13 where no
 // record of that width fits into a part.
 pub fn insert_file(
+    rt: &impl Files,
     name: &[u8],
     width: usize,
     sheet: GridSearch,
@@ -199,24 +258,25 @@ pub fn insert_file(
     if part_length(width) == 0 {
         return Inserted::Refused(13);
     }
-    let fd = os::open_read(name);
-    let answer = insert_parts(fd, width, sheet, keys, ids, xs, ys, zs);
-    libc::close(fd);
-    answer
+    match open(rt, name) {
+        Some(mut file) => insert_parts(&mut file, width, sheet, keys, ids, xs, ys, zs),
+        None => marks_answer(-1, -1, 0),
+    }
 }
 
 // Reads standard input into a buffer. Past what the buffer holds one byte is asked for, and no more.
-pub fn read_input(bytes: &mut [u8; 131072]) -> Input
+pub fn read_input(stdin: &impl io::Input, bytes: &mut [u8; 131072]) -> Input
     ensures { Came result bytes.new }
 {
-    let came = io::read_full(STDIN_FILENO, bytes);
-    let after = read_on(STDIN_FILENO);
+    let mut reader = stdin.reader();
+    let came = read_full(&mut reader, bytes);
+    let after = read_on(&mut reader);
     input_of(came, 131072, after)
 }
 
 // Writes a text on standard output, and says on standard error where it could not be written whole.
-pub fn write_text(text: &[u8], complaint: &[u8]) {
-    let written = io::write_all(STDOUT_FILENO, text);
+pub fn write_text(stdout: &impl Print, stderr: &impl Print, text: &[u8], complaint: &[u8]) {
+    let written = stdout.write_all(text).is_ok();
     let n = said_of(written, complaint);
-    io::write_all(STDERR_FILENO, &complaint[..n]);
+    let _ = stderr.write_all(&complaint[..n]);
 }

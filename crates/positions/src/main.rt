@@ -4,38 +4,40 @@
 
 mod printing;
 
-fn say(what: &[u8]) {
-    io::write_all(1, what);
+use std::io::Print;
+
+fn say(stdout: &impl Print, what: &[u8]) {
+    let _ = stdout.write_all(what);
 }
 
-fn refused(number: u64) {
-    say(b"refused ");
-    io::print_decimal(1, number);
-    say(b"\n");
+fn refused(stdout: &impl Print, number: u64) {
+    say(stdout, b"refused ");
+    let _ = stdout.print(number);
+    say(stdout, b"\n");
 }
 
 // What a call returned: 0 is success.
-fn accepted(number: u64) {
+fn accepted(stdout: &impl Print, number: u64) {
     if number == 0 {
-        say(b"accepted\n");
+        say(stdout, b"accepted\n");
     } else {
-        refused(number);
+        refused(stdout, number);
     }
 }
 
-fn root(x: f64) {
-    printing::print_float(floats::sqrt(x));
-    say(b"\n");
+fn root(stdout: &impl Print, x: f64) {
+    printing::print_float(stdout, floats::sqrt(x));
+    say(stdout, b"\n");
 }
 
-fn truncation(x: f64) {
-    io::print_decimal(1, floats::truncated(x));
-    say(b"\n");
+fn truncation(stdout: &impl Print, x: f64) {
+    let _ = stdout.print(floats::truncated(x));
+    say(stdout, b"\n");
 }
 
-fn rounding_up(x: f64) {
-    printing::print_float(floats::ceil(x));
-    say(b"\n");
+fn rounding_up(stdout: &impl Print, x: f64) {
+    printing::print_float(stdout, floats::ceil(x));
+    say(stdout, b"\n");
 }
 
 // Sheet S with a number of divisions and a tolerance: corners (0, 0) and (8, 4), border 0.
@@ -45,14 +47,18 @@ fn new_sheet(ndiv: u64, tolerance: f64, numbers: &mut [u64], floats: &mut [f64])
     capi::gemlab_grid_search_new(&low, &high, 1, ndiv, 1, tolerance, 1, 0.0, numbers, floats)
 }
 
-fn sheet(ndiv: u64, tolerance: f64) {
+fn sheet(stdout: &impl Print, ndiv: u64, tolerance: f64) {
     let mut numbers = [0u64; 8];
     let mut floats = [0.0; 17];
-    accepted(new_sheet(ndiv, tolerance, &mut numbers, &mut floats));
+    accepted(
+        stdout,
+        new_sheet(ndiv, tolerance, &mut numbers, &mut floats),
+    );
 }
 
 // Puts a mark into a library and tells the keys of its rows.
 fn insert(
+    stdout: &impl Print,
     numbers: &[u64],
     floats: &[f64],
     keys: &mut [u64],
@@ -70,15 +76,16 @@ fn insert(
         numbers, floats, keys, ids, xs, ys, zs, used, id, &p,
     );
     if number == 0 {
-        say(b"keys");
-        printing::print_numbers(keys, *used);
-        say(b"\n");
+        say(stdout, b"keys");
+        printing::print_numbers(stdout, keys, *used);
+        say(stdout, b"\n");
     } else {
-        refused(number);
+        refused(stdout, number);
     }
 }
 
 fn search(
+    stdout: &impl Print,
     numbers: &[u64],
     floats: &[f64],
     keys: &[u64],
@@ -97,18 +104,19 @@ fn search(
         numbers, floats, keys, ids, xs, ys, zs, used, &p, &mut found, &mut id,
     );
     if number != 0 {
-        refused(number);
+        refused(stdout, number);
     } else if found == 0 {
-        say(b"nothing\n");
+        say(stdout, b"nothing\n");
     } else {
-        say(b"finds ");
-        io::print_decimal(1, id);
-        say(b"\n");
+        say(stdout, b"finds ");
+        let _ = stdout.print(id);
+        say(stdout, b"\n");
     }
 }
 
 // The ids on the line from (x0, y) to (x1, y).
 fn line(
+    stdout: &impl Print,
     numbers: &[u64],
     floats: &[f64],
     keys: &[u64],
@@ -130,16 +138,16 @@ fn line(
         &mut n,
     );
     if number == 0 {
-        say(b"ids");
-        printing::print_numbers(&list, n);
-        say(b"\n");
+        say(stdout, b"ids");
+        printing::print_numbers(stdout, &list, n);
+        say(stdout, b"\n");
     } else {
-        refused(number);
+        refused(stdout, number);
     }
 }
 
 // A mark alone.
-fn mark(numbers: &[u64], floats: &[f64], x: f64, y: f64) {
+fn mark(stdout: &impl Print, numbers: &[u64], floats: &[f64], x: f64, y: f64) {
     let mut keys = [0u64; 8];
     let mut ids = [0u64; 8];
     let mut xs = [0.0; 8];
@@ -147,49 +155,56 @@ fn mark(numbers: &[u64], floats: &[f64], x: f64, y: f64) {
     let mut zs = [0.0; 8];
     let mut n = 0;
     insert(
-        numbers, floats, &mut keys, &mut ids, &mut xs, &mut ys, &mut zs, &mut n, 1, x, y,
+        stdout, numbers, floats, &mut keys, &mut ids, &mut xs, &mut ys, &mut zs, &mut n, 1, x, y,
     );
 }
 
 // Id 7 with three free rows.
-fn three_rows(numbers: &[u64], floats: &[f64]) {
+fn three_rows(stdout: &impl Print, numbers: &[u64], floats: &[f64]) {
     let mut keys = [0u64; 3];
     let mut ids = [0u64; 3];
     let mut xs = [0.0; 3];
     let mut ys = [0.0; 3];
     let mut zs = [0.0; 3];
     let mut n = 0;
-    say(b"7 at (2, 1) with 3 free rows: ");
+    say(stdout, b"7 at (2, 1) with 3 free rows: ");
     insert(
-        numbers, floats, &mut keys, &mut ids, &mut xs, &mut ys, &mut zs, &mut n, 7, 2.0, 1.0,
+        stdout, numbers, floats, &mut keys, &mut ids, &mut xs, &mut ys, &mut zs, &mut n, 7, 2.0,
+        1.0,
     );
 }
 
 // Id 7 at (2, 1), then at (5.5, 2.5).
-fn seven(numbers: &[u64], floats: &[f64]) {
+fn seven(stdout: &impl Print, numbers: &[u64], floats: &[f64]) {
     let mut keys = [0u64; 8];
     let mut ids = [0u64; 8];
     let mut xs = [0.0; 8];
     let mut ys = [0.0; 8];
     let mut zs = [0.0; 8];
     let mut n = 0;
-    say(b"7 at (2, 1) into empty rows: ");
+    say(stdout, b"7 at (2, 1) into empty rows: ");
     insert(
-        numbers, floats, &mut keys, &mut ids, &mut xs, &mut ys, &mut zs, &mut n, 7, 2.0, 1.0,
+        stdout, numbers, floats, &mut keys, &mut ids, &mut xs, &mut ys, &mut zs, &mut n, 7, 2.0,
+        1.0,
     );
-    three_rows(numbers, floats);
-    say(b"(2, 1): ");
-    search(numbers, floats, &keys, &ids, &xs, &ys, &zs, n, 2.0, 1.0);
-    say(b"7 at (5.5, 2.5): ");
+    three_rows(stdout, numbers, floats);
+    say(stdout, b"(2, 1): ");
+    search(
+        stdout, numbers, floats, &keys, &ids, &xs, &ys, &zs, n, 2.0, 1.0,
+    );
+    say(stdout, b"7 at (5.5, 2.5): ");
     insert(
-        numbers, floats, &mut keys, &mut ids, &mut xs, &mut ys, &mut zs, &mut n, 7, 5.5, 2.5,
+        stdout, numbers, floats, &mut keys, &mut ids, &mut xs, &mut ys, &mut zs, &mut n, 7, 5.5,
+        2.5,
     );
-    say(b"(2, 1): ");
-    search(numbers, floats, &keys, &ids, &xs, &ys, &zs, n, 2.0, 1.0);
+    say(stdout, b"(2, 1): ");
+    search(
+        stdout, numbers, floats, &keys, &ids, &xs, &ys, &zs, n, 2.0, 1.0,
+    );
 }
 
 // Id 8 alone, at (3 - 9/4096, 0.5).
-fn eight(numbers: &[u64], floats: &[f64]) {
+fn eight(stdout: &impl Print, numbers: &[u64], floats: &[f64]) {
     let mut keys = [0u64; 8];
     let mut ids = [0u64; 8];
     let mut xs = [0.0; 8];
@@ -197,16 +212,19 @@ fn eight(numbers: &[u64], floats: &[f64]) {
     let mut zs = [0.0; 8];
     let mut n = 0;
     let x = 3.0 - 9.0 / 4096.0;
-    say(b"8 alone at (3 - 9/4096, 0.5): ");
+    say(stdout, b"8 alone at (3 - 9/4096, 0.5): ");
     insert(
-        numbers, floats, &mut keys, &mut ids, &mut xs, &mut ys, &mut zs, &mut n, 8, x, 0.5,
+        stdout, numbers, floats, &mut keys, &mut ids, &mut xs, &mut ys, &mut zs, &mut n, 8, x, 0.5,
     );
-    say(b"(3, 0.5): ");
-    search(numbers, floats, &keys, &ids, &xs, &ys, &zs, n, 3.0, 0.5);
+    say(stdout, b"(3, 0.5): ");
+    search(
+        stdout, numbers, floats, &keys, &ids, &xs, &ys, &zs, n, 3.0, 0.5,
+    );
 }
 
 // Lines whose ends are close, with one row.
 fn close_ends(
+    stdout: &impl Print,
     numbers: &[u64],
     floats: &[f64],
     keys: &[u64],
@@ -216,46 +234,58 @@ fn close_ends(
     zs: &[f64],
     n: u64,
 ) {
-    say(b"line from (1, 1) to (1, 1) with one row: ");
-    line(numbers, floats, keys, ids, xs, ys, zs, n, 1.0, 1.0, 1.0);
+    say(stdout, b"line from (1, 1) to (1, 1) with one row: ");
+    line(
+        stdout, numbers, floats, keys, ids, xs, ys, zs, n, 1.0, 1.0, 1.0,
+    );
     let x = 1.0 + 1.0 / 67108864.0;
-    say(b"line from (1, 0.5) to (1 + 2^-26, 0.5) with one row: ");
-    line(numbers, floats, keys, ids, xs, ys, zs, n, 1.0, x, 0.5);
+    say(
+        stdout,
+        b"line from (1, 0.5) to (1 + 2^-26, 0.5) with one row: ",
+    );
+    line(
+        stdout, numbers, floats, keys, ids, xs, ys, zs, n, 1.0, x, 0.5,
+    );
     let x = 1.0 + 1.0 / 33554432.0;
-    say(b"line from (1, 0.5) to (1 + 2^-25, 0.5) with one row: ");
-    line(numbers, floats, keys, ids, xs, ys, zs, n, 1.0, x, 0.5);
+    say(
+        stdout,
+        b"line from (1, 0.5) to (1 + 2^-25, 0.5) with one row: ",
+    );
+    line(
+        stdout, numbers, floats, keys, ids, xs, ys, zs, n, 1.0, x, 0.5,
+    );
 }
 
 // Such lines without rows, and with the one row of id 8.
-fn lines(numbers: &[u64], floats: &[f64]) {
+fn lines(stdout: &impl Print, numbers: &[u64], floats: &[f64]) {
     let mut keys = [0u64; 8];
     let mut ids = [0u64; 8];
     let mut xs = [0.0; 8];
     let mut ys = [0.0; 8];
     let mut zs = [0.0; 8];
     let mut n = 0;
-    say(b"line from (1, 1) to (1, 1) without rows: ");
+    say(stdout, b"line from (1, 1) to (1, 1) without rows: ");
     line(
-        numbers, floats, &keys, &ids, &xs, &ys, &zs, n, 1.0, 1.0, 1.0,
+        stdout, numbers, floats, &keys, &ids, &xs, &ys, &zs, n, 1.0, 1.0, 1.0,
     );
     let p = [3.0 - 9.0 / 4096.0, 0.5];
     capi::gemlab_grid_search_insert(
         numbers, floats, &mut keys, &mut ids, &mut xs, &mut ys, &mut zs, &mut n, 8, &p,
     );
-    close_ends(numbers, floats, &keys, &ids, &xs, &ys, &zs, n);
+    close_ends(stdout, numbers, floats, &keys, &ids, &xs, &ys, &zs, n);
 }
 
 // The distance of a point from the circle of centre (4, 2) and radius 1.
-fn circle(x: f64, y: f64) {
+fn circle(stdout: &impl Print, x: f64, y: f64) {
     let center = [4.0, 2.0];
     let p = [x, y];
     let mut distance = 0.0;
     let number = capi::gemlab_point_circle_distance(&center, 1.0, &p, &mut distance);
     if number == 0 {
-        printing::print_float(distance);
-        say(b"\n");
+        printing::print_float(stdout, distance);
+        say(stdout, b"\n");
     } else {
-        refused(number);
+        refused(stdout, number);
     }
 }
 
@@ -278,7 +308,7 @@ fn new_index(
 }
 
 // A position in a triangle.
-fn triangle(coords: &[f64], x: f64, y: f64) {
+fn triangle(stdout: &impl Print, coords: &[f64], x: f64, y: f64) {
     let corners = [0u32, 1, 2];
     let mut keys = [0u64; 4];
     let mut cells = [0u64; 4];
@@ -305,144 +335,153 @@ fn triangle(coords: &[f64], x: f64, y: f64) {
         &mut cell,
     );
     if number != 0 {
-        refused(number);
+        refused(stdout, number);
     } else if found == 0 {
-        say(b"outside\n");
+        say(stdout, b"outside\n");
     } else {
-        say(b"inside, ");
-        printing::print_float(zeta[0]);
-        say(b" ");
-        printing::print_float(zeta[1]);
-        say(b" ");
-        printing::print_float(zeta[2]);
-        say(b"\n");
+        say(stdout, b"inside, ");
+        printing::print_float(stdout, zeta[0]);
+        say(stdout, b" ");
+        printing::print_float(stdout, zeta[1]);
+        say(stdout, b" ");
+        printing::print_float(stdout, zeta[2]);
+        say(stdout, b"\n");
     }
 }
 
 // The index of one triangle with a percentage, given or left out.
-fn percentage(coords: &[f64], given: u64, percentage: f64) {
+fn percentage(stdout: &impl Print, coords: &[f64], given: u64, percentage: f64) {
     let corners = [0u32, 1, 2];
     let mut keys = [0u64; 4];
     let mut cells = [0u64; 4];
     let mut large = [0u64; 1];
     let mut numbers = [0u64; 6];
     let mut floats = [0.0; 7];
-    accepted(new_index(
-        coords,
-        &corners,
-        given,
-        percentage,
-        &mut keys,
-        &mut cells,
-        &mut large,
-        &mut numbers,
-        &mut floats,
-    ));
+    accepted(
+        stdout,
+        new_index(
+            coords,
+            &corners,
+            given,
+            percentage,
+            &mut keys,
+            &mut cells,
+            &mut large,
+            &mut numbers,
+            &mut floats,
+        ),
+    );
 }
 
 // Marks on S.
-fn marks() {
+fn marks(stdout: &impl Print) {
     let mut numbers = [0u64; 8];
     let mut floats = [0.0; 17];
     new_sheet(8, 1.0 / 512.0, &mut numbers, &mut floats);
-    say(b"mark at (0, 0): ");
-    mark(&numbers, &floats, 0.0, 0.0);
-    say(b"mark at (3.5, 2.5): ");
-    mark(&numbers, &floats, 3.5, 2.5);
-    say(b"mark at (8, 4): ");
-    mark(&numbers, &floats, 8.0, 4.0);
-    say(b"mark at (next float above 8, 4): ");
-    mark(&numbers, &floats, 8.0 + 1.0 / 562949953421312.0, 4.0);
-    seven(&numbers, &floats);
-    eight(&numbers, &floats);
+    say(stdout, b"mark at (0, 0): ");
+    mark(stdout, &numbers, &floats, 0.0, 0.0);
+    say(stdout, b"mark at (3.5, 2.5): ");
+    mark(stdout, &numbers, &floats, 3.5, 2.5);
+    say(stdout, b"mark at (8, 4): ");
+    mark(stdout, &numbers, &floats, 8.0, 4.0);
+    say(stdout, b"mark at (next float above 8, 4): ");
+    mark(
+        stdout,
+        &numbers,
+        &floats,
+        8.0 + 1.0 / 562949953421312.0,
+        4.0,
+    );
+    seven(stdout, &numbers, &floats);
+    eight(stdout, &numbers, &floats);
 }
 
-fn sheets() {
-    say(b"S with tolerance 0.5: ");
-    sheet(8, 0.5);
-    say(b"S with tolerance 0.4375: ");
-    sheet(8, 0.4375);
-    say(b"S with divisions 1: ");
-    sheet(1, 1.0 / 512.0);
-    say(b"S with divisions 2: ");
-    sheet(2, 1.0 / 512.0);
+fn sheets(stdout: &impl Print) {
+    say(stdout, b"S with tolerance 0.5: ");
+    sheet(stdout, 8, 0.5);
+    say(stdout, b"S with tolerance 0.4375: ");
+    sheet(stdout, 8, 0.4375);
+    say(stdout, b"S with divisions 1: ");
+    sheet(stdout, 1, 1.0 / 512.0);
+    say(stdout, b"S with divisions 2: ");
+    sheet(stdout, 2, 1.0 / 512.0);
 }
 
 // Lines on S.
-fn lines_on_s() {
+fn lines_on_s(stdout: &impl Print) {
     let mut numbers = [0u64; 8];
     let mut floats = [0.0; 17];
     new_sheet(8, 1.0 / 512.0, &mut numbers, &mut floats);
-    lines(&numbers, &floats);
+    lines(stdout, &numbers, &floats);
 }
 
-fn triangles() {
+fn triangles(stdout: &impl Print) {
     let right = [0.0, 0.0, 4.0, 0.0, 0.0, 4.0];
-    say(b"triangle (0, 0), (4, 0), (0, 4), (1, 1): ");
-    triangle(&right, 1.0, 1.0);
-    say(b"triangle (0, 0), (4, 0), (0, 4), (2, 2): ");
-    triangle(&right, 2.0, 2.0);
-    say(b"triangle (0, 0), (4, 0), (0, 4), (3, 3): ");
-    triangle(&right, 3.0, 3.0);
+    say(stdout, b"triangle (0, 0), (4, 0), (0, 4), (1, 1): ");
+    triangle(stdout, &right, 1.0, 1.0);
+    say(stdout, b"triangle (0, 0), (4, 0), (0, 4), (2, 2): ");
+    triangle(stdout, &right, 2.0, 2.0);
+    say(stdout, b"triangle (0, 0), (4, 0), (0, 4), (3, 3): ");
+    triangle(stdout, &right, 3.0, 3.0);
     let flat = [0.0, 0.0, 1.0, 0.0, 2.0, 0.0];
-    say(b"triangle (0, 0), (1, 0), (2, 0), (1, 0): ");
-    triangle(&flat, 1.0, 0.0);
-    say(b"one triangle, percentage 1: ");
-    percentage(&right, 1, 1.0);
-    say(b"one triangle, default percentage: ");
-    percentage(&right, 0, 0.0);
+    say(stdout, b"triangle (0, 0), (1, 0), (2, 0), (1, 0): ");
+    triangle(stdout, &flat, 1.0, 0.0);
+    say(stdout, b"one triangle, percentage 1: ");
+    percentage(stdout, &right, 1, 1.0);
+    say(stdout, b"one triangle, default percentage: ");
+    percentage(stdout, &right, 0, 0.0);
 }
 
 // Module 1 at its edges.
-fn roots() {
-    say(b"root of 2: ");
-    root(2.0);
-    say(b"root of 0: ");
-    root(0.0);
-    say(b"root of -0: ");
-    root(-0.0);
-    say(b"root of -1: ");
-    root(-1.0);
-    say(b"root of infinity: ");
-    root(1.0 / 0.0);
+fn roots(stdout: &impl Print) {
+    say(stdout, b"root of 2: ");
+    root(stdout, 2.0);
+    say(stdout, b"root of 0: ");
+    root(stdout, 0.0);
+    say(stdout, b"root of -0: ");
+    root(stdout, -0.0);
+    say(stdout, b"root of -1: ");
+    root(stdout, -1.0);
+    say(stdout, b"root of infinity: ");
+    root(stdout, 1.0 / 0.0);
 }
 
-fn truncations() {
-    say(b"truncation of 7.9375: ");
-    truncation(7.9375);
-    say(b"truncation of -7.9375: ");
-    truncation(-7.9375);
-    say(b"truncation of infinity: ");
-    truncation(1.0 / 0.0);
-    say(b"truncation of NaN: ");
-    truncation(0.0 / 0.0);
+fn truncations(stdout: &impl Print) {
+    say(stdout, b"truncation of 7.9375: ");
+    truncation(stdout, 7.9375);
+    say(stdout, b"truncation of -7.9375: ");
+    truncation(stdout, -7.9375);
+    say(stdout, b"truncation of infinity: ");
+    truncation(stdout, 1.0 / 0.0);
+    say(stdout, b"truncation of NaN: ");
+    truncation(stdout, 0.0 / 0.0);
 }
 
-fn roundings_up() {
-    say(b"rounding up of 2.5: ");
-    rounding_up(2.5);
-    say(b"rounding up of -2.5: ");
-    rounding_up(-2.5);
-    say(b"rounding up of -0.5: ");
-    rounding_up(-0.5);
-    say(b"rounding up of 3: ");
-    rounding_up(3.0);
+fn roundings_up(stdout: &impl Print) {
+    say(stdout, b"rounding up of 2.5: ");
+    rounding_up(stdout, 2.5);
+    say(stdout, b"rounding up of -2.5: ");
+    rounding_up(stdout, -2.5);
+    say(stdout, b"rounding up of -0.5: ");
+    rounding_up(stdout, -0.5);
+    say(stdout, b"rounding up of 3: ");
+    rounding_up(stdout, 3.0);
 }
 
-fn main() {
-    say(b"root of 2.25: ");
-    root(2.25);
-    say(b"root of 0.25: ");
-    root(0.25);
-    marks();
-    sheets();
-    lines_on_s();
-    say(b"circle of centre (4, 2) and radius 1, (5, 2): ");
-    circle(5.0, 2.0);
-    say(b"circle of centre (4, 2) and radius 1, (4, 2): ");
-    circle(4.0, 2.0);
-    triangles();
-    roots();
-    truncations();
-    roundings_up();
+fn main(rt: HostRuntime) {
+    say(&rt, b"root of 2.25: ");
+    root(&rt, 2.25);
+    say(&rt, b"root of 0.25: ");
+    root(&rt, 0.25);
+    marks(&rt);
+    sheets(&rt);
+    lines_on_s(&rt);
+    say(&rt, b"circle of centre (4, 2) and radius 1, (5, 2): ");
+    circle(&rt, 5.0, 2.0);
+    say(&rt, b"circle of centre (4, 2) and radius 1, (4, 2): ");
+    circle(&rt, 4.0, 2.0);
+    triangles(&rt);
+    roots(&rt);
+    truncations(&rt);
+    roundings_up(&rt);
 }

@@ -1,5 +1,7 @@
 // Checks of a library, with one of its entries changed meanwhile.
 use crate::compared;
+use std::fs::File;
+use std::io::Read;
 
 // What a result holds before a call that may write it: no row has that number.
 const BEFORE: u64 = 9999;
@@ -42,7 +44,7 @@ fn exchange(
 
 // Whether the call tells of the library what the file has.
 fn told(
-    fd: i32,
+    file: &mut File,
     numbers: &[u64],
     floats: &[f64],
     keys: &[u64],
@@ -68,14 +70,14 @@ fn told(
         &mut row,
         &mut visited,
     );
-    let expected = compared::word(fd);
+    let expected = compared::word(file);
     if expected != 0 {
         return (number == expected)
             & ((broken == BEFORE) & ((row == BEFORE) & (visited == BEFORE)));
     }
-    let bad = compared::word(fd);
-    let lowest = compared::word(fd);
-    let walked = compared::word(fd);
+    let bad = compared::word(file);
+    let lowest = compared::word(file);
+    let walked = compared::word(file);
     if bad == 0 {
         return (number == 0) & ((broken == 0) & ((row == BEFORE) & (visited == walked)));
     }
@@ -84,7 +86,7 @@ fn told(
 
 // A check with an entry of the library changed, which is put back.
 pub fn check(
-    fd: i32,
+    file: &mut File,
     numbers: &[u64],
     floats: &[f64],
     keys: &mut [u64],
@@ -94,15 +96,15 @@ pub fn check(
     zs: &mut [f64],
     used: u64,
 ) -> bool {
-    let list = compared::word(fd);
-    let at = compared::word(fd) as usize;
+    let list = compared::word(file);
+    let at = compared::word(file) as usize;
     // a number or a float, as the list has it
     let mut bytes = [0u8; 8];
-    io::read_full(fd, &mut bytes);
+    let _ = file.read_exact(&mut bytes);
     let mut number = records::number_at(&bytes, 0);
     let mut float = records::float_at(&bytes, 0);
     exchange(list, at, keys, ids, xs, ys, zs, &mut number, &mut float);
-    let agrees = told(fd, numbers, floats, keys, ids, xs, ys, zs, used);
+    let agrees = told(file, numbers, floats, keys, ids, xs, ys, zs, used);
     exchange(list, at, keys, ids, xs, ys, zs, &mut number, &mut float);
     agrees
 }

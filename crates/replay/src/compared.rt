@@ -1,40 +1,66 @@
 // Numbers read from a file, and what a call gave beside them.
 ghost use Rattle.replay.specs.Counts.{Counts};
 
+use std::fmt::InlineText;
+use std::fs::File;
+use std::io;
+use std::io::{ErrorKind, Print, Read};
+use std::rt::Files;
+
+// The file of this name, whose numbers are read. A name in `std` is UTF-8.
+pub fn open(rt: &impl Files<File = File>, path: &[u8]) -> io::Result<File> {
+    match std::str::from_utf8(path) {
+        Ok(path) => File::open(rt, path),
+        Err(_) => Err(io::Error::from(ErrorKind::InvalidInput)),
+    }
+}
+
+// Says on standard error why a file could not be opened, in the system's words: the number after them is left out.
+pub fn fail(stderr: &impl Print, path: &[u8], error: io::Error) {
+    let text = InlineText::<80>::of(error);
+    let words = match text.as_str().split_once(" (os error ") {
+        Some((words, _)) => words,
+        None => text.as_str(),
+    };
+    let _ = stderr.write_all(path);
+    let _ = stderr.write_all(b": ");
+    let _ = stderr.println(words);
+}
+
 // The next number: eight bytes, the lowest first; 0 past the end.
-pub fn word(fd: i32) -> u64 {
+pub fn word(file: &mut File) -> u64 {
     let mut bytes = [0u8; 8];
-    io::read_full(fd, &mut bytes);
+    let _ = file.read_exact(&mut bytes);
     records::number_at(&bytes, 0)
 }
 
-pub fn float(fd: i32) -> f64 {
+pub fn float(file: &mut File) -> f64 {
     let mut bytes = [0u8; 8];
-    io::read_full(fd, &mut bytes);
+    let _ = file.read_exact(&mut bytes);
     records::float_at(&bytes, 0)
 }
 
 // A list with its length in front, as much of it as fits, and how much that is.
-pub fn floats(fd: i32, to: &mut [f64]) -> usize
+pub fn floats(file: &mut File, to: &mut [f64]) -> usize
     ensures { Counts result to.new }
 {
-    let mut left = word(fd);
+    let mut left = word(file);
     let mut n = 0;
     while n < to.len() && left > 0 {
-        to[n] = float(fd);
+        to[n] = float(file);
         n += 1;
         left -= 1;
     }
     n
 }
 
-pub fn corners(fd: i32, to: &mut [u32]) -> usize
+pub fn corners(file: &mut File, to: &mut [u32]) -> usize
     ensures { Counts result to.new }
 {
-    let mut left = word(fd);
+    let mut left = word(file);
     let mut n = 0;
     while n < to.len() && left > 0 {
-        to[n] = (word(fd) % 0x1_0000_0000) as u32;
+        to[n] = (word(file) % 0x1_0000_0000) as u32;
         n += 1;
         left -= 1;
     }
@@ -47,12 +73,12 @@ pub fn same(a: f64, b: f64) -> bool {
 }
 
 // Whether the first `count` numbers of a list are the next ones of the file, which are read.
-pub fn same_numbers(fd: i32, got: &[u64], count: u64) -> bool {
+pub fn same_numbers(file: &mut File, got: &[u64], count: u64) -> bool {
     let mut all = true;
     let mut i = 0;
     let mut left = count;
     while left > 0 {
-        let next = word(fd);
+        let next = word(file);
         if i < got.len() {
             all = all && got[i] == next;
             i += 1;
@@ -64,12 +90,12 @@ pub fn same_numbers(fd: i32, got: &[u64], count: u64) -> bool {
     all
 }
 
-pub fn same_floats(fd: i32, got: &[f64], count: u64) -> bool {
+pub fn same_floats(file: &mut File, got: &[f64], count: u64) -> bool {
     let mut all = true;
     let mut i = 0;
     let mut left = count;
     while left > 0 {
-        let next = float(fd);
+        let next = float(file);
         if i < got.len() {
             all = all && same(got[i], next);
             i += 1;
@@ -104,11 +130,11 @@ pub fn zero_floats(got: &[f64], from: usize) -> bool {
 }
 
 // Whether a number is among the next `count` of the file, which are read.
-pub fn among(fd: i32, number: u64, count: u64) -> bool {
+pub fn among(file: &mut File, number: u64, count: u64) -> bool {
     let mut any = false;
     let mut left = count;
     while left > 0 {
-        let next = word(fd);
+        let next = word(file);
         any = any || next == number;
         left -= 1;
     }

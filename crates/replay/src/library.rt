@@ -1,5 +1,8 @@
 // Sheets, insertions, strikings, searches, listings, tables and distances.
 use crate::{checks, compared};
+use std::fs::File;
+use std::io::Print;
+use std::rt::Files;
 
 // What a result holds before a call that may write it.
 const BEFORE: f64 = -12345.5;
@@ -18,37 +21,37 @@ fn measured(kind: u64, a: &[f64], b: &[f64], c: &[f64], radius: f64, d: &mut f64
     capi::gemlab_point_cylinder_distance(a, b, radius, c, d)
 }
 
-fn distance(fd: i32) -> bool {
-    let kind = compared::word(fd);
+fn distance(file: &mut File) -> bool {
+    let kind = compared::word(file);
     let mut a = [0.0; 4];
-    let na = compared::floats(fd, &mut a);
+    let na = compared::floats(file, &mut a);
     let mut b = [0.0; 4];
-    let nb = compared::floats(fd, &mut b);
+    let nb = compared::floats(file, &mut b);
     let mut c = [0.0; 4];
-    let nc = compared::floats(fd, &mut c);
-    let radius = compared::float(fd);
+    let nc = compared::floats(file, &mut c);
+    let radius = compared::float(file);
     let mut d = BEFORE;
     let number = measured(kind, &a[..na], &b[..nb], &c[..nc], radius, &mut d);
-    let expected = compared::word(fd);
+    let expected = compared::word(file);
     if expected == 0 {
-        let next = compared::float(fd);
+        let next = compared::float(file);
         number == 0 && compared::same(d, next)
     } else {
         number == expected && compared::same(d, BEFORE)
     }
 }
 
-fn sheet(fd: i32, numbers: &mut [u64], floats: &mut [f64]) -> bool {
+fn sheet(file: &mut File, numbers: &mut [u64], floats: &mut [f64]) -> bool {
     let mut low = [0.0; 4];
-    let nl = compared::floats(fd, &mut low);
+    let nl = compared::floats(file, &mut low);
     let mut high = [0.0; 4];
-    let nh = compared::floats(fd, &mut high);
-    let ndiv_given = compared::word(fd);
-    let ndiv = compared::word(fd);
-    let tolerance_given = compared::word(fd);
-    let tolerance = compared::float(fd);
-    let border_given = compared::word(fd);
-    let border = compared::float(fd);
+    let nh = compared::floats(file, &mut high);
+    let ndiv_given = compared::word(file);
+    let ndiv = compared::word(file);
+    let tolerance_given = compared::word(file);
+    let tolerance = compared::float(file);
+    let border_given = compared::word(file);
+    let border = compared::float(file);
     let number = capi::gemlab_grid_search_new(
         &low[..nl],
         &high[..nh],
@@ -61,17 +64,17 @@ fn sheet(fd: i32, numbers: &mut [u64], floats: &mut [f64]) -> bool {
         numbers,
         floats,
     );
-    let expected = compared::word(fd);
+    let expected = compared::word(file);
     if expected != 0 {
         return number == expected;
     }
-    let same_numbers = compared::same_numbers(fd, numbers, 8);
-    let same_floats = compared::same_floats(fd, floats, 17);
+    let same_numbers = compared::same_numbers(file, numbers, 8);
+    let same_floats = compared::same_floats(file, floats, 17);
     (number == 0) & (same_numbers & same_floats)
 }
 
 fn insertion(
-    fd: i32,
+    file: &mut File,
     numbers: &[u64],
     floats: &[f64],
     keys: &mut [u64],
@@ -81,9 +84,9 @@ fn insertion(
     zs: &mut [f64],
     used: &mut u64,
 ) -> bool {
-    let id = compared::word(fd);
+    let id = compared::word(file);
     let mut x = [0.0; 4];
-    let n = compared::floats(fd, &mut x);
+    let n = compared::floats(file, &mut x);
     let number = capi::gemlab_grid_search_insert(
         numbers,
         floats,
@@ -96,14 +99,14 @@ fn insertion(
         id,
         &x[..n],
     );
-    let expected = compared::word(fd);
-    let rows = compared::word(fd);
+    let expected = compared::word(file);
+    let rows = compared::word(file);
     (number == expected) & (*used == rows)
 }
 
 // The rows in use are compared where a table comes next, and the entries past them here.
 fn striking(
-    fd: i32,
+    file: &mut File,
     numbers: &[u64],
     floats: &[f64],
     keys: &mut [u64],
@@ -113,7 +116,7 @@ fn striking(
     zs: &mut [f64],
     used: &mut u64,
 ) -> bool {
-    let id = compared::word(fd);
+    let id = compared::word(file);
     let mut removed = 7;
     let number = capi::gemlab_grid_search_strike(
         numbers,
@@ -127,12 +130,12 @@ fn striking(
         id,
         &mut removed,
     );
-    let expected = compared::word(fd);
-    let rows = compared::word(fd);
+    let expected = compared::word(file);
+    let rows = compared::word(file);
     if expected != 0 {
         return (number == expected) & ((*used == rows) & (removed == 7));
     }
-    let went = compared::word(fd);
+    let went = compared::word(file);
     let past = rows as usize;
     let no_keys = compared::zero_numbers(keys, past);
     let no_ids = compared::zero_numbers(ids, past);
@@ -144,7 +147,7 @@ fn striking(
 }
 
 fn search(
-    fd: i32,
+    file: &mut File,
     numbers: &[u64],
     floats: &[f64],
     keys: &[u64],
@@ -155,7 +158,7 @@ fn search(
     used: u64,
 ) -> bool {
     let mut x = [0.0; 4];
-    let n = compared::floats(fd, &mut x);
+    let n = compared::floats(file, &mut x);
     let mut found = 7;
     let mut id = 0;
     let number = capi::gemlab_grid_search_search(
@@ -171,22 +174,22 @@ fn search(
         &mut found,
         &mut id,
     );
-    let expected = compared::word(fd);
+    let expected = compared::word(file);
     if expected != 0 {
         return number == expected && found == 7;
     }
-    let count = compared::word(fd);
+    let count = compared::word(file);
     if count == 0 {
         return number == 0 && found == 0;
     }
     // the first is the one to name; gemlab may give the others too
-    let chosen = compared::word(fd);
-    let another = compared::among(fd, id, count - 1);
+    let chosen = compared::word(file);
+    let another = compared::among(file, id, count - 1);
     (number == 0) & ((found == 1) & ((id == chosen) & !another))
 }
 
 fn listing(
-    fd: i32,
+    file: &mut File,
     numbers: &[u64],
     floats: &[f64],
     keys: &[u64],
@@ -196,16 +199,16 @@ fn listing(
     zs: &[f64],
     used: u64,
 ) -> bool {
-    let place = compared::word(fd);
+    let place = compared::word(file);
     let mut a = [0.0; 4];
-    let na = compared::floats(fd, &mut a);
+    let na = compared::floats(file, &mut a);
     let mut b = [0.0; 4];
-    let nb = compared::floats(fd, &mut b);
-    let number = compared::float(fd);
-    let filter = compared::word(fd);
-    let axis = compared::word(fd);
-    let low = compared::float(fd);
-    let high = compared::float(fd);
+    let nb = compared::floats(file, &mut b);
+    let number = compared::float(file);
+    let filter = compared::word(file);
+    let axis = compared::word(file);
+    let low = compared::float(file);
+    let high = compared::float(file);
     let mut list = [0u64; 64];
     let mut count = 0;
     let given = capi::gemlab_grid_search_list(
@@ -228,18 +231,18 @@ fn listing(
         &mut list,
         &mut count,
     );
-    let expected = compared::word(fd);
+    let expected = compared::word(file);
     if expected != 0 {
         return given == expected;
     }
-    let n = compared::word(fd);
-    let same = compared::same_numbers(fd, &list, n);
+    let n = compared::word(file);
+    let same = compared::same_numbers(file, &list, n);
     (given == 0) & ((count == n) & same)
 }
 
 // The rows in use, column by column.
 fn table(
-    fd: i32,
+    file: &mut File,
     keys: &[u64],
     ids: &[u64],
     xs: &[f64],
@@ -247,18 +250,18 @@ fn table(
     zs: &[f64],
     used: u64,
 ) -> bool {
-    let n = compared::word(fd);
-    let same_keys = compared::same_numbers(fd, keys, n);
-    let same_ids = compared::same_numbers(fd, ids, n);
-    let same_xs = compared::same_floats(fd, xs, n);
-    let same_ys = compared::same_floats(fd, ys, n);
-    let same_zs = compared::same_floats(fd, zs, n);
+    let n = compared::word(file);
+    let same_keys = compared::same_numbers(file, keys, n);
+    let same_ids = compared::same_numbers(file, ids, n);
+    let same_xs = compared::same_floats(file, xs, n);
+    let same_ys = compared::same_floats(file, ys, n);
+    let same_zs = compared::same_floats(file, zs, n);
     (used == n) & (same_keys & (same_ids & (same_xs & (same_ys & same_zs))))
 }
 
 // A call that changes the library: a new sheet, which empties it, an insertion or a striking.
 fn change(
-    fd: i32,
+    file: &mut File,
     kind: u64,
     numbers: &mut [u64],
     floats: &mut [f64],
@@ -271,17 +274,17 @@ fn change(
 ) -> bool {
     if kind == 1 {
         *used = 0;
-        return sheet(fd, numbers, floats);
+        return sheet(file, numbers, floats);
     }
     if kind == 2 {
-        return insertion(fd, numbers, floats, keys, ids, xs, ys, zs, used);
+        return insertion(file, numbers, floats, keys, ids, xs, ys, zs, used);
     }
-    striking(fd, numbers, floats, keys, ids, xs, ys, zs, used)
+    striking(file, numbers, floats, keys, ids, xs, ys, zs, used)
 }
 
 // A call that leaves the library as it is.
 fn question(
-    fd: i32,
+    file: &mut File,
     kind: u64,
     numbers: &[u64],
     floats: &[f64],
@@ -293,20 +296,20 @@ fn question(
     used: u64,
 ) -> bool {
     if kind == 3 {
-        return search(fd, numbers, floats, keys, ids, xs, ys, zs, used);
+        return search(file, numbers, floats, keys, ids, xs, ys, zs, used);
     }
     if kind == 4 {
-        return listing(fd, numbers, floats, keys, ids, xs, ys, zs, used);
+        return listing(file, numbers, floats, keys, ids, xs, ys, zs, used);
     }
     if kind == 5 {
-        return table(fd, keys, ids, xs, ys, zs, used);
+        return table(file, keys, ids, xs, ys, zs, used);
     }
-    distance(fd)
+    distance(file)
 }
 
 // One entry of the file: whether it agrees.
 fn entry(
-    fd: i32,
+    file: &mut File,
     kind: u64,
     numbers: &mut [u64],
     floats: &mut [f64],
@@ -318,17 +321,17 @@ fn entry(
     used: &mut u64,
 ) -> bool {
     if kind <= 2 || kind == 10 {
-        return change(fd, kind, numbers, floats, keys, ids, xs, ys, zs, used);
+        return change(file, kind, numbers, floats, keys, ids, xs, ys, zs, used);
     }
     if kind == 11 {
-        return checks::check(fd, numbers, floats, keys, ids, xs, ys, zs, *used);
+        return checks::check(file, numbers, floats, keys, ids, xs, ys, zs, *used);
     }
-    question(fd, kind, numbers, floats, keys, ids, xs, ys, zs, *used)
+    question(file, kind, numbers, floats, keys, ids, xs, ys, zs, *used)
 }
 
 // The entries of a file, up to the kind 0. A proved loop has to end, so it counts its turns down from a number that no
 // run uses up.
-fn entries(fd: i32, counts: &mut [u64; 64]) {
+fn entries(file: &mut File, counts: &mut [u64; 64]) {
     let mut numbers = [0u64; 8];
     let mut floats = [0.0; 17];
     // no zeros: a striking has to write them
@@ -338,11 +341,11 @@ fn entries(fd: i32, counts: &mut [u64; 64]) {
     let mut ys = [BEFORE; 512];
     let mut zs = [BEFORE; 512];
     let mut used = 0;
-    let mut kind = compared::word(fd);
+    let mut kind = compared::word(file);
     let mut turns = u64::MAX;
     while turns > 0 && kind > 0 {
         let agrees = entry(
-            fd,
+            file,
             kind,
             &mut numbers,
             &mut floats,
@@ -354,17 +357,19 @@ fn entries(fd: i32, counts: &mut [u64; 64]) {
             &mut used,
         );
         compared::tally(counts, kind, agrees);
-        kind = compared::word(fd);
+        kind = compared::word(file);
         turns -= 1;
     }
 }
 
-pub fn replay(path: &[u8], counts: &mut [u64; 64]) {
-    let fd = os::open_read(path);
-    if fd < 0 {
-        os::fail(path);
-        return;
+pub fn replay(
+    rt: &impl Files<File = File>,
+    stderr: &impl Print,
+    path: &[u8],
+    counts: &mut [u64; 64],
+) {
+    match compared::open(rt, path) {
+        Ok(mut file) => entries(&mut file, counts),
+        Err(e) => compared::fail(stderr, path, e),
     }
-    entries(fd, counts);
-    libc::close(fd);
 }

@@ -7,29 +7,31 @@ mod compared;
 mod library;
 mod mesh;
 
+use std::io::Print;
+
 // The entries of a kind, and how many of them differ.
-fn tell(what: &[u8], counts: &[u64; 64], kind: usize) {
+fn tell(stdout: &impl Print, what: &[u8], counts: &[u64; 64], kind: usize) {
     if kind < 32 {
-        io::write_all(1, what);
-        io::print_decimal(1, counts[kind]);
-        io::write_all(1, b", ");
-        io::print_decimal(1, counts[kind + 32]);
-        io::write_all(1, b" differ\n");
+        let _ = stdout.write_all(what);
+        let _ = stdout.print(counts[kind]);
+        let _ = stdout.write_all(b", ");
+        let _ = stdout.print(counts[kind + 32]);
+        let _ = stdout.write_all(b" differ\n");
     }
 }
 
-fn main() {
+fn main(rt: HostRuntime) {
     let mut counts = [0u64; 64];
-    library::replay(b"libraries.bin", &mut counts);
-    mesh::replay(b"meshes.bin", &mut counts);
-    tell(b"sheets: ", &counts, 1);
-    tell(b"insertions: ", &counts, 2);
-    tell(b"strikings: ", &counts, 10);
-    tell(b"checks: ", &counts, 11);
-    tell(b"searches: ", &counts, 3);
-    tell(b"listings: ", &counts, 4);
-    tell(b"tables: ", &counts, 5);
-    tell(b"distances: ", &counts, 6);
-    tell(b"cell builds: ", &counts, 8);
-    tell(b"cell searches: ", &counts, 9);
+    library::replay(&rt, &rt.stderr(), b"libraries.bin", &mut counts);
+    mesh::replay(&rt, &rt.stderr(), b"meshes.bin", &mut counts);
+    tell(&rt, b"sheets: ", &counts, 1);
+    tell(&rt, b"insertions: ", &counts, 2);
+    tell(&rt, b"strikings: ", &counts, 10);
+    tell(&rt, b"checks: ", &counts, 11);
+    tell(&rt, b"searches: ", &counts, 3);
+    tell(&rt, b"listings: ", &counts, 4);
+    tell(&rt, b"tables: ", &counts, 5);
+    tell(&rt, b"distances: ", &counts, 6);
+    tell(&rt, b"cell builds: ", &counts, 8);
+    tell(&rt, b"cell searches: ", &counts, 9);
 }

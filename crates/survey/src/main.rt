@@ -4,14 +4,15 @@
 #![tactic(auto)]
 
 ghost use Rattle.std.specs.Prelude.{take};
-ghost use Rattle.io.specs.Counts.{IsPrefixLen};
 ghost use Rattle.text.specs.Text.{Front};
+ghost use Rattle.files.specs.Counts.{IsPrefixLen};
 ghost use Rattle.files.specs.Files.{input_answer};
 ghost use Rattle.files.specs.Read.{Came};
 ghost use Rattle.surveyed.specs.Surveyed.{input_text};
 ghost use Rattle.survey.specs.Printed.{Printed};
 
 use files::Input;
+use std::io;
 
 // How many bytes came: none where standard input is not held or cannot be read.
 fn came(input: Input, bytes: &[u8; 131072]) -> usize
@@ -37,18 +38,23 @@ fn put_input(input: Input, bytes: &[u8], text: &mut [u8; 70804]) -> usize
 }
 
 // What is printed of standard input: it stands at the front of the buffer.
-fn put_text(text: &mut [u8; 70804]) -> usize
+fn put_text(stdin: &impl io::Input, text: &mut [u8; 70804]) -> usize
     ensures prefix_len { IsPrefixLen result text.new }
     ensures printed { Printed (take result text.new) }
 {
     let mut bytes = [0u8; 131072];
-    let input = files::read_input(&mut bytes);
+    let input = files::read_input(stdin, &mut bytes);
     let n = came(input, &bytes);
     put_input(input, &bytes[..n], text)
 }
 
-fn main() {
+fn main(rt: HostRuntime) {
     let mut text = [0u8; 70804];
-    let n = put_text(&mut text);
-    files::write_text(&text[..n], b"survey: the text could not be written whole\n");
+    let n = put_text(&rt, &mut text);
+    files::write_text(
+        &rt.stdout(),
+        &rt.stderr(),
+        &text[..n],
+        b"survey: the text could not be written whole\n",
+    );
 }
