@@ -1,8 +1,7 @@
 -- What the private functions ensure. Definitions only.
 -- Assumes nothing.
-use Rattle.std.specs.Prelude.{ℕ, ◌+◌, ◌-◌, ◌≤◌, ◌<◌, ◌≡◌, Bool, true, false, not, cond, ◌&&◌, List, [], ◌∷◌, leb, eqb, length, take, drop, Float}
+use Rattle.std.specs.Prelude.{ℕ, ◌+◌, ◌-◌, ◌≤◌, ◌<◌, ◌≡◌, true, false, cond, List, [], ◌∷◌, length, take, drop, Float}
 use Rattle.std.proofs.Math.Option.{Option, none, some}
-use Rattle.basics.specs.Lists.{all}
 use Rattle.lines.specs.Pieces.{split}
 use Rattle.millimetres.specs.Millimetres.{value_of}
 use Rattle.decimals.specs.Decimals.{is_coordinate, millimetres}

@@ -14,7 +14,7 @@ use decimals::{ReadCoordinate, ReadNumber};
 use records::Record;
 
 // What `import` answers: how many marks, the first bad line, or another refusal.
-#[derive(Drop)]
+#[derive(Clone, Copy)]
 pub enum Imported {
     Marks(usize),
     Malformed(usize),
@@ -22,21 +22,21 @@ pub enum Imported {
 }
 
 // What `read_line` answers.
-#[derive(Drop)]
+#[derive(Clone, Copy)]
 pub enum ReadLine {
     Mark(Record),
     Malformed,
 }
 
 // What `read_value` answers.
-#[derive(Drop)]
+#[derive(Clone, Copy)]
 enum ReadValue {
     Value(f64),
     Malformed,
 }
 
 // Where the first four commas of a line stand.
-#[derive(Drop)]
+#[derive(Clone, Copy)]
 struct Commas {
     first: usize,
     second: usize,
@@ -44,14 +44,14 @@ struct Commas {
     fourth: usize,
 }
 
-#[derive(Drop)]
+#[derive(Clone, Copy)]
 enum FoundCommas {
     Four(Commas),
     Fewer,
 }
 
 // What `judge` answers: how many lines, or the first bad one.
-#[derive(Drop)]
+#[derive(Clone, Copy)]
 enum Judged {
     Lines(usize),
     Malformed(usize),
