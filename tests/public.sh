@@ -1,12 +1,13 @@
 #!/bin/sh
 # tests/public.sh: a public call asks nothing of its caller. Each of those named here has to be there, with an `ensures` and
-# no `requires`; and crate `capi` shows nothing else than such calls. `tests/public.sh --list` names them.
+# no `requires`; crate `capi` shows nothing else than such calls, and `capi_c` shows them to C with the same parameters and the same
+# clauses. `tests/public.sh --list` names them.
 set -eu
 unset CDPATH
 cd "$(dirname "$0")/.."
 failed=0
 
-# The public calls: a crate, and their names. Those of `capi` are in its header.
+# The public calls: a crate, and their names. Those of `capi` and `capi_c` are in the header.
 public() {
     cat <<'END'
 geometry point_point_distance point_line_distance point_circle_distance point_cylinder_distance
@@ -29,8 +30,10 @@ grid_cells new
 cell_search search
 mesh_view new grid_cells search build
 END
-    # shellcheck disable=SC2046
-    echo capi $(sed -n 's/^uint64_t \(gemlab_[a-z_]*\)(.*/\1/p' include/gemlab.h)
+    for crate in capi capi_c; do
+        # shellcheck disable=SC2046
+        echo $crate $(sed -n 's/^uint64_t \(gemlab_[a-z_]*\)(.*/\1/p' include/gemlab.h)
+    done
 }
 
 # For tests/believed.sh: a line for each, crate and name.
@@ -39,28 +42,42 @@ if [ "${1:-}" = --list ]; then
     exit
 fi
 
-# A line for each public function in these files: its name, and what stands in front of its body, `requires` or `ensures`.
+# A line for each public function in these files: its name, and what stands in front of its body, `requires` or `ensures`; with
+# `whole=1` all that stands in front of its body, with a space for each gap and none at a bracket.
 contracts() {
     awk '
-        function clauses(text,    c, said, word, depth) {
+        function clauses(text,    c, said, kind, named, depth, all) {
+            all = text
             while (text != "") {
                 if (match(text, /^[A-Za-z_0-9]+/)) {
-                    word = substr(text, 1, RLENGTH)
+                    # `requires`, and the name that a clause may have
+                    if (substr(text, 1, RLENGTH) ~ /^(requires|ensures)$/) {
+                        kind = substr(text, 1, RLENGTH)
+                        named = 0
+                    } else if (named++) {
+                        kind = ""
+                    }
                     text = substr(text, RLENGTH + 1)
                     continue
                 }
                 c = substr(text, 1, 1)
                 text = substr(text, 2)
                 if (c == "{") {
-                    if (depth == 0 && word !~ /^(requires|ensures)$/)
+                    if (depth == 0 && kind == "")
                         break
                     if (depth++ == 0)
-                        said = said " " word
+                        said = said " " kind
                 } else if (c == "}") {
                     depth--
                 }
-                if (c !~ /[ \t\n]/)
-                    word = ""
+                if (c !~ /[* \t\n]/)
+                    kind = ""
+            }
+            if (whole) {
+                said = substr(all, 1, length(all) - length(text) - 1)
+                gsub(/[ \t\n]+/, " ", said)
+                gsub(/,? ?\) ?/, ")", said)
+                gsub(/ ?\( ?/, "(", said)
             }
             return said
         }
@@ -108,27 +125,30 @@ pub fn on_one_line(x: u64) -> u64 {
 }
 // pub fn in_a_comment() requires { x }
 fn private(x: u64) -> u64
-    requires { ⌜ x < 5 ⌝ }
-    ensures { λ r. ⌜ r ≡ x ⌝ }
+    requires { x < 5 }
+    ensures { result ≡ x }
 {
     x
 }
 pub fn asks<'a>(x: &'a [u64]) -> u64
-    requires { ⌜ 0 < length (now x) ⌝ }
-    ensures { λ r. ⌜ r ≡ 0 ⌝ } {
+    requires some { 0 < length x.now }
+    requires few { length x.now < 5 }
+    ensures { result ≡ 0 } {
     0
 }
 impl X {
-    pub fn promises(self) -> u64 ensures { λ r. cond { r } { 0 } } {
+    pub fn promises(self) -> u64 ensures same { cond { result } { 0 } } {
         // requires {
         self.requires
     }
 }
+#[unsafe(no_mangle)]
 pub extern "C" fn to_c(
     x: u64,
+    y: &(u64),
 ) -> u64
     ensures {
-        λ r. ⌜ r ≡ x ⌝
+        result ≡ (x)
     }
 {
     X { requires: x }.requires
@@ -139,12 +159,16 @@ pub fn promises(x: u64)
 END
 cat >"$work/expected" <<'END'
 on_one_line
-asks requires ensures
+asks requires requires ensures
 promises ensures
 to_c ensures
 promises
 END
 contracts "$work/example.rt" | diff "$work/expected" - || {
+    echo "public: an example is read otherwise" && failed=1
+}
+echo 'to_c(x: u64, y: &(u64))-> u64 ensures { result ≡(x)}' >"$work/expected"
+contracts whole=1 "$work/example.rt" | grep '^to_c' | sed 's/ *$//' | diff "$work/expected" - || {
     echo "public: an example is read otherwise" && failed=1
 }
 
@@ -154,10 +178,23 @@ while read -r crate names; do
 done <<END
 $(public)
 END
-others=$(contracts crates/capi/src/*.rt | sed 's/ .*//' | grep -v '^gemlab_' || :)
-shown=$(contracts crates/capi/src/*.rt | grep -c '^gemlab_')
-if [ -n "$others" ] || [ "$(public | sed -n 's/^capi //p' | wc -w)" -ne 20 ] || [ "$shown" -ne 20 ]; then
-    echo "public: capi shows other calls than the twenty of its header: $shown, and $others" && failed=1
-fi
+for crate in capi capi_c; do
+    others=$(contracts crates/$crate/src/*.rt | sed 's/ .*//' | grep -v '^gemlab_' || :)
+    shown=$(contracts crates/$crate/src/*.rt | grep -c '^gemlab_')
+    if [ -n "$others" ] || [ "$(public | sed -n "s/^$crate //p" | wc -w)" -ne 20 ] || [ "$shown" -ne 20 ]; then
+        echo "public: $crate shows other calls than the twenty of its header: $shown, and $others" && failed=1
+    fi
+    contracts whole=1 crates/$crate/src/*.rt | LC_ALL=C sort >"$work/$crate"
+done
+diff "$work/capi" "$work/capi_c" || {
+    echo "public: capi_c shows other parameters or clauses to C than capi has" && failed=1
+}
+for file in crates/capi_c/src/*.rt; do
+    exports=$(grep -c '^#\[unsafe(no_mangle)\]$' "$file" || :)
+    calls=$(grep -c '^pub extern "C" fn gemlab_' "$file" || :)
+    [ "$exports" -eq "$calls" ] || {
+        echo "public: $file shows $calls calls, and exports $exports" && failed=1
+    }
+done
 [ "$failed" -eq 0 ] && echo "public: every public call promises something and asks nothing"
 exit $failed
