@@ -18,7 +18,6 @@ cat >"$work/walk" <<'AWK'
 # A name, in a file, is its own item or one that a `use` line brings in.
 function words(text, into,    n, i, m, list, w) {
     gsub(/[(){},;]/, " ", text)
-    gsub(/⌜|⌝/, " ", text)
     n = split(text, list, /[ \t\n]+/)
     m = 0
     for (i = 1; i <= n; i++) {
@@ -35,9 +34,9 @@ function words(text, into,    n, i, m, list, w) {
 function import(line,    module, rest, n, i, list, name, shown, k) {
     sub(/^ *(ghost )?use +/, "", line)
     sub(/; *$/, "", line)
-    if (line !~ /^Rattle·/)
+    if (line !~ /^Rattle\./)
         return
-    sub(/^Rattle·/, "", line)
+    sub(/^Rattle\./, "", line)
     match(line, /^[a-z_0-9]+/)
     if (!(substr(line, 1, RLENGTH) in needs))
         return
@@ -64,18 +63,17 @@ function import(line,    module, rest, n, i, list, name, shown, k) {
     uses[here] = uses[here] " " module
 }
 
-# An operator `_+_` is met as `+`.
+# An operator `◌+◌` is met as `+`.
 function bring(shown, target,    list, n, i) {
     brought[here, shown] = target
-    if (shown ~ /_/ && (n = split(shown, list, /_/)))
+    if (shown ~ /◌/ && (n = split(shown, list, /◌/)))
         for (i = 1; i <= n; i++)
             if (list[i] != "")
                 brought[here, list[i]] = target
 }
 
-# CRATE·specs.specs.FILE, CRATE.specs.FILE: both CRATE/specs/FILE
+# CRATE.specs.FILE: CRATE/specs/FILE
 function plain(module) {
-    sub(/·(specs|proofs)\./, ".", module)
     gsub(/\./, "/", module)
     return module
 }
@@ -152,31 +150,36 @@ function antt(line,    depth, bare, head, name, sort, d) {
     lines[item]++
 }
 
-# The clauses of a function of the code, from its name to its body.
-function clauses(all,    said, c, word, depth, one) {
+# The clauses of a function of the code, from its name to its body; a clause may have a name.
+function clauses(all,    said, c, kind, named, depth, one) {
     while (all != "") {
         if (match(all, /^[A-Za-z_0-9]+/)) {
-            word = substr(all, 1, RLENGTH)
             if (depth > 0)
-                one = one word
+                one = one substr(all, 1, RLENGTH)
+            else if (substr(all, 1, RLENGTH) ~ /^(requires|ensures)$/) {
+                kind = 1
+                named = 0
+            } else if (named++)
+                kind = 0
             all = substr(all, RLENGTH + 1)
             continue
         }
         c = substr(all, 1, 1)
         all = substr(all, 2)
         if (c == "{") {
-            if (depth == 0 && word !~ /^(requires|ensures)$/)
+            if (depth == 0 && !kind)
                 break
             depth++
             c = " "
         } else if (c == "}") {
-            depth--
+            if (--depth == 0)
+                kind = 0
             c = " "
         }
         if (depth > 0)
             one = one c
-        if (c !~ /[ \t\n]/)
-            word = ""
+        else if (c !~ /[* \t\n]/)
+            kind = 0
     }
     return one
 }
@@ -283,8 +286,9 @@ FNR == 1 {
 }
 kind == "crates" {
     sub(/#.*/, "")
-    if (match($0, /^[a-z_0-9]+:/)) {
-        name = substr($0, 1, RLENGTH - 1)
+    if (match($0, /^[a-z_0-9]+( staticlib)?:/)) {
+        name = $1
+        sub(/:$/, "", name)
         needs[name] = substr($0, RLENGTH + 1)
         crate_list[++listed] = name
     }
@@ -369,15 +373,15 @@ mkdir -p "$work"/example/crates/low/src "$work"/example/crates/low/specs "$work"
 (
     cd "$work/example"
     cat >crates.txt <<'END'
-high: low
+high staticlib: low
 low:
 END
     cat >crates/low/specs/Numbers.antt <<'END'
 -- Not counted.
-use Prim.Native.Nat.{ℕ, _+_}
-use Rattle·low·specs.specs.declared.Pair.{Pair}
-infixl 6 _⊞_
-abbrev pub _⊞_ : ℕ → ℕ → ℕ
+use Rattle.std.specs.Prelude.{ℕ, ◌+◌}
+use Rattle.low.specs.declared.Pair.{Pair}
+infixl 6 ◌⊞◌
+abbrev pub ◌⊞◌ : ℕ → ℕ → ℕ
 x ⊞ y = x + y
 
 pub data Way : Type 0 where
@@ -399,7 +403,7 @@ module _ (w : Way) (p : Pair) where
       go down = 0
 END
     cat >crates/low/specs/Mixed.antt <<'END'
-use Rattle·low·specs.specs.Numbers.{Way, turned}
+use Rattle.low.specs.Numbers.{Way, turned}
 abbrev pub mixed : Way → ℕ
 mixed w = turned w w
 
@@ -411,25 +415,25 @@ abbrev pub apart : ℕ
 apart = 1
 END
     cat >crates/high/specs/Claims.antt <<'END'
-use Rattle·low.specs.Numbers.{down as back}
-use Rattle·low.specs.Mixed.{mixed as both}
+use Rattle.low.specs.Numbers.{down as back}
+use Rattle.low.specs.Mixed.{mixed as both}
 pub record Claim : Type 0 where
   pub is : both back ≡ 0
 END
     cat >crates/high/proofs/Nothing.antt <<'END'
 END
     cat >crates/high/src/lib.rt <<'END'
-ghost use Rattle·low.specs.Numbers.{_⊞_, unused};
-ghost use Rattle·low.proofs.Apart.{apart};
+ghost use Rattle.low.specs.Numbers.{◌⊞◌, unused};
+ghost use Rattle.low.proofs.Apart.{apart};
 // pub fn shown() ensures { unused }
 fn hidden() -> u64
-    ensures { λ r. ⌜ r ≡ unused ⌝ }
+    ensures { result ≡ unused }
 {
     0
 }
 pub fn shown(x: u64) -> u64
-    ensures { λ r. ⌜ r ≡ x ⊞ 1 ⌝ }
-    ensures { λ r. ⌜ (r .apart) ≡ record { x = apart } ⌝ }
+    ensures unused { result ≡ x ⊞ 1 }
+    ensures record_of { result.unused ≡ record { x = apart } }
 {
     unused
 }
@@ -442,7 +446,7 @@ cat >"$work/expected" <<'END'
 believed: mixed of low/specs/Mixed.antt stands among laws: law
 believed: apart of low/proofs/Apart.antt stands in proofs/
 low/specs/Numbers.antt
-     2 _⊞_
+     2 ◌⊞◌
      3 Way
      6 turned
 low/specs/Mixed.antt
