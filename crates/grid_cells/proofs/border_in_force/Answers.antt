@@ -1,0 +1,12 @@
+-- `grid_cells::border_in_force` meets its contract. Assumes nothing.
+use lib.Ieee.{of_bits}
+use Rattle.grid_search.specs.Sheet.{border_of}
+use Rattle.grid_cells.proofs.border_in_force.Goals as goal
+
+pub returns-in-Given : goal.returns-in-Given
+unfolding border_of
+returns-in-Given c = rw c.in-Given.is
+
+pub returns-in-LeftOut : goal.returns-in-LeftOut
+unfolding border_of of_bits
+returns-in-LeftOut c = rw c.in-LeftOut.is
