@@ -1,4 +1,4 @@
-//! Links libcapi.a, which `rt staticlib capi` writes.
+//! Links libcapi.a, which `./staticlib capi` writes.
 //!
 //! It is in the folder that HRBOTAJ_LIB names, and else in target/staticlib of this repository.
 
@@ -13,7 +13,7 @@ fn main() {
     };
     let archive = folder.join("libcapi.a");
     println!("cargo:rerun-if-changed={}", archive.display());
-    assert!(archive.is_file(), "{} is missing; run `rt staticlib capi`, or set HRBOTAJ_LIB", archive.display());
+    assert!(archive.is_file(), "{} is missing; run `./staticlib capi`, or set HRBOTAJ_LIB", archive.display());
     println!("cargo:rustc-link-search=native={}", folder.display());
     println!("cargo:rustc-link-lib=static=capi");
 }

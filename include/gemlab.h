@@ -1,7 +1,7 @@
 /*
  * gemlab: points and cells found by position.
  *
- * The library is target/staticlib/libcapi.a, for x86-64 Linux; `rt staticlib capi` writes it. It
+ * The library is target/staticlib/libcapi.a, for x86-64 Linux; `./staticlib capi` writes it. It
  * needs no other library:
  *
  *     gcc -Iinclude program.c target/staticlib/libcapi.a -o program

@@ -5,7 +5,7 @@
 //! point lists of surveyors. Each method is one call, and each call answers or is turned away with a [`Refusal`], which
 //! leaves everything as it was. What each call means is written in `include/gemlab.h`, and proved.
 //!
-//! The library is `libcapi.a`, which `rt staticlib capi` writes into `target/staticlib`; the environment variable
+//! The library is `libcapi.a`, which `./staticlib capi` writes into `target/staticlib`; the environment variable
 //! `HRBOTAJ_LIB` names another folder.
 //!
 //! Calls may run in several threads at once: nothing is kept between them, and what a call writes is borrowed alone. A call
