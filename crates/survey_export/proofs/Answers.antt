@@ -13,7 +13,7 @@ use borrow.Author.Tests.{lt-ltb, le-ltb, ltb-false, leb-true, lt-leb, le-leb}
 use Rattle.basics.specs.Lists.{all, any, over}
 use Rattle.basics.specs.Refusals.{refuse, fault, code, success}
 use Rattle.basics.specs.Filled.{Filled, fill}
-use Rattle.basics.proofs.Bools.{by_test, both, and_left, and_right, or_left, clash}
+use Rattle.basics.proofs.Bools.{by_test, and_left, and_right, or_left, clash}
 use Rattle.basics.proofs.Refusals.{unrefused, code-some, code-none}
 use Rattle.basics.proofs.Filled.{fill-success}
 use Rattle.table.specs.Library.{fits}

@@ -64,7 +64,7 @@ good m e =
 
 pub line-is : (m : Record) (x y z : ℤ) → Told m x y z → line_text m.id x y z ≡ line_of m
 unfolding line_of
-line-is m x y z t = λ i. line_text m.id (t.x-is i) (t.y-is i) (t.z-is i)
+line-is m x y z t = λ i. line_text m.id (t.x_is i) (t.y_is i) (t.z_is i)
 
 pub line_parts : (id : ℕ) (x y z : ℤ) → line_text id x y z ≡ decimal id ++ (44 ∷ coordinate_text x ++ (44 ∷ coordinate_text y ++ (44 ∷ coordinate_text z ++ (44 ∷ 10 ∷ []))))
 unfolding line_text

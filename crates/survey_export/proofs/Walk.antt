@@ -41,13 +41,13 @@ Within x y z = (nat_abs x ≤ limit) × (nat_abs y ≤ limit) × (nat_abs z ≤ 
 pub told-within : (m : Record) (x y z : ℤ) → Told m x y z → Within x y z
 told-within m x y z t =
     let g = good m t.good in
-    (rw t.x-is (within m.x g.x), rw t.y-is (within m.y g.y), rw t.z-is (within m.z g.z))
+    (rw t.x_is (within m.x g.x), rw t.y_is (within m.y g.y), rw t.z_is (within m.z g.z))
 
 -- and are read back from the bits that hold them
 pub told_back : (m : Record) (x y z : ℤ) → Told m x y z → Told m (to_z w64 (of_z w64 x)) (to_z w64 (of_z w64 y)) (to_z w64 (of_z w64 z))
 told_back m x y z t =
     let h = told-within m x y z t in
-    record { good = t.good; x_is = read_back x h.0 ∙ t.x-is; y_is = read_back y h.1 ∙ t.y-is; z_is = read_back z h.2 ∙ t.z-is }
+    record { good = t.good; x_is = read_back x h.0 ∙ t.x_is; y_is = read_back y h.1 ∙ t.y_is; z_is = read_back z h.2 ∙ t.z_is }
 
 -- ---- the walk
 

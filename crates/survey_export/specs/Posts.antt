@@ -2,9 +2,8 @@
 use Rattle.std.specs.Prelude.{ℕ, ◌≡◌, true, false, List, ◌++◌, ℤ}
 use Rattle.basics.specs.Lists.{all}
 use Rattle.records.specs.declared.Record.{Record}
-use Rattle.text.specs.Text.{ascii, decimal, Put}
+use Rattle.text.specs.Text.{ascii, Put}
 use Rattle.millimetres.specs.Millimetres.{nearest_to}
-use Rattle.decimals.specs.Decimals.{coordinate_text}
 use Rattle.survey_export.specs.Export.{good_mark, text_of}
 use Rattle.survey_export.specs.declared.Exported.{Exported}
 use Rattle.survey_export.specs.declared.Exported.TheVariants as exported

@@ -14,14 +14,14 @@ use millimetres::Whole;
 use records::Record;
 
 // What `export` answers: how long the text is, or the refusal.
-#[derive(Drop)]
+#[derive(Clone, Copy)]
 pub enum Exported {
     Length(usize),
     Refused(u64),
 }
 
 // The coordinates of a mark in millimetres, or that one of them is no decimal's value.
-#[derive(Drop)]
+#[derive(Clone, Copy)]
 enum Decimals {
     Whole(i64, i64, i64),
     NoDecimal,
