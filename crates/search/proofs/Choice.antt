@@ -36,9 +36,9 @@ module _ (s : GridSearch) (x : List Float) where
   leads-join r t u a b =
       let d = away s x in
       record {
-        not_farther = le_join (d r) (d t) (d u) a.not-farther b.not-farther;
+        not_farther = le_join (d r) (d t) (d u) a.not_farther b.not_farther;
         not_higher = λ h.
-            le_trans (a.not-higher (le_join (d t) (d u) (d r) b.not-farther h)) (b.not-higher (le_join (d u) (d r) (d t) h a.not-farther));
+            le_trans (a.not_higher (le_join (d t) (d u) (d r) b.not_farther h)) (b.not_higher (le_join (d u) (d r) (d t) h a.not_farther));
       }
 
   before-leads : (r t : Row) → chosen_before s x r t ≡ true → Leads r t

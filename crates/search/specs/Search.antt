@@ -1,7 +1,7 @@
 -- Module 7: the near rows, and apart from them the choice among them.
 -- Assumes nothing.
 use Rattle.std.specs.Prelude.{ℕ, Bool, ◌&&◌, ◌||◌, cond, List, [], ◌∷◌, ◌++◌, eqb, ltb, Float}
-use Rattle.std.proofs.Math.Option.{Option, none, some, Option·elim}
+use Rattle.std.proofs.Math.Option.{Option, none, some, Option-elim}
 use Rattle.std.specs.Float.Ieee.{lt, le, eq}
 use Rattle.basics.specs.Lists.{keep}
 use Rattle.basics.specs.Refusals.{Test, fault, Answer, refused, success, answer}
@@ -49,8 +49,8 @@ nearest s x (r ∷ rows) = nearer_of s x r (nearest s x rows)
 
 -- the choice among the rows near a position: the id with the least computed distance, and the lowest id among equal distances
 unfoldable pub chosen : GridSearch → List Float → List Row → Option ℕ
-unfolding nearest Option·elim
-chosen s x rows = Option·elim (nearest s x rows) none (λ (r : Row). some (id_in r))
+unfolding nearest Option-elim
+chosen s x rows = Option-elim (nearest s x rows) none (λ (r : Row). some (id_in r))
 
 -- 24, 13, 2, 3, 11, 17
 unfoldable pub search_tests : GridSearch → Library → List Float → List Test

@@ -18,7 +18,7 @@ use table::ItemId;
 use windows::Distance;
 
 // What `search` answers.
-#[derive(Drop)]
+#[derive(Clone, Copy)]
 pub enum Found {
     Id(ItemId),
     Nothing,
@@ -27,7 +27,7 @@ pub enum Found {
 
 // The nearest of the near rows that a walk has met: its id and the square of its distance. Where it has met none, a square
 // from which on no row is near, or a NaN.
-#[derive(Drop)]
+#[derive(Clone, Copy)]
 struct Nearest {
     any: bool,
     id: u64,
