@@ -104,7 +104,7 @@ module _ (g : GridCells) (n : ℕ) (l : IndexLists) (e : sound_index g n l ≡ t
   large-below i h =
       let p : ℕ → Bool = λ (c : ℕ). ltb c n in
       let good = and_left (all p (take g.large l.large)) (ascending (take g.large l.large)) parts.3 in
-      let long = length-take-le g.large l.large sound-entries.in-large in
+      let long = length-take-le g.large l.large sound-entries.in_large in
       ltb-true (get_or l.large i 0) n (ap p (sym (get_or-take g.large l.large i 0 h)) ∙ all_at p (take g.large l.large) i 0 (rw long h) good)
 
 -- ---- the tests as a number, one way out after the other
@@ -160,7 +160,7 @@ module _ (g : GridCells) (m : Mesh) (l : IndexLists) where
         record {
           whole = mesh_whole;
           keyed = record { axes = mesh_whole.axes; divisions = good-divisions g (sound-good g n l sound) };
-          rows = record { in_keys = enough.in-keys; in_ids = enough.in_cells; order = sound-order g n l sound };
+          rows = record { in_keys = enough.in_keys; in_ids = enough.in_cells; order = sound-order g n l sound };
           cells = record { room = enough.in_cells; below = cell_below g n l sound };
-          large = record { room = enough.in-large; below = large-below g n l sound };
+          large = record { room = enough.in_large; below = large-below g n l sound };
         }
