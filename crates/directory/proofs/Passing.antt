@@ -120,7 +120,7 @@ module _ (s : GridSearch) (l : Library) (d : Directory) where
       let m = (unrefused last (sym (fault-right (both_tests s l d) last f) ∙ e)).0 in
       record {
         library-passes = b.library-passes;
-        not-long_places = b.not-long-places;
+        not-long_places = b.not-long_places;
         places-sound = b.places-sound;
         entries-are = matches-are (table l) d (not-false _ m);
       }
@@ -129,7 +129,7 @@ module _ (s : GridSearch) (l : Library) (d : Directory) where
   unfolding directory_tests both_tests
   passes p =
       passed (directory_tests s l d) (
-        rw (not-long s l p.library-passes) p.not-long-places,
+        rw (not-long s l p.library-passes) p.not-long_places,
         (
           rw (together s l (whole s l p.library-passes), p.places-sound),
           (rw (are-matches (table l) d p.entries-are), tt),

@@ -17,7 +17,7 @@ use grid_search::GridSearch;
 const MAX_PLACES: usize = 65536;
 
 // What `build` answers: how many places are in use now, or the refusal.
-#[derive(Drop)]
+#[derive(Clone, Copy)]
 pub enum Built {
     Places(usize),
     Refused(u64),
@@ -25,7 +25,7 @@ pub enum Built {
 
 // What `look_up` answers: the place of the key and how many places were read; how many were read, none having the key; or the
 // refusal.
-#[derive(Drop)]
+#[derive(Clone, Copy)]
 pub enum LookedUp {
     At(usize, usize),
     Nowhere(usize),
