@@ -81,11 +81,11 @@ module _ {from n i : ℕ} {first s : List ℕ} (g : Stepping from n i first s) w
     least = omega (arith, g.least);
     long = length-set s i (get_or s i 0 + 1) ∙ g.long;
     rest = λ j k. get_or-set_other s i j (get_or s i 0 + 1) 0 (λ e. omega arith) ∙ g.rest j (omega arith);
-    same_in_the_end = stepped-next i n s h ∙ g.same-in-the-end;
+    same_in_the_end = stepped-next i n s h ∙ g.same_in_the_end;
   }
 
   pub stepping_end : n ≤ i → s ≡ stepped from n first
-  stepping_end h = sym (stepped_end i n s h) ∙ g.same-in-the-end
+  stepping_end h = sym (stepped_end i n s h) ∙ g.same_in_the_end
 
 -- ---- one more row of a key, by the place of its container
 

@@ -20,14 +20,14 @@ use rows::Judged;
 use table::{ItemId, Row};
 
 // What `insert` answers: how many rows and how many places are in use now, or the refusal.
-#[derive(Drop)]
+#[derive(Clone, Copy)]
 pub enum Inserted {
     Stored(usize, usize),
     Refused(u64),
 }
 
 // How many rows and places are in use.
-#[derive(Drop)]
+#[derive(Clone, Copy)]
 struct Counts {
     rows: usize,
     places: usize,
