@@ -37,7 +37,7 @@ decimals = record {
   rounded = λ f c. values.rounded (millimetres f) (coordinate-size f c);
   taken = decimal_field;
   written = λ x h d. back x d h;
-  no_minus_zero = λ f c e. values.no-minus-zero (millimetres f) (coordinate-size f c) e;
+  no_minus_zero = λ f c e. values.no_minus_zero (millimetres f) (coordinate-size f c) e;
 }
 
 -- ---- an import whose tests pass
@@ -79,7 +79,7 @@ unfolding importing
 round_trip l buffer n h s e k m v r =
     let w = written l buffer n e in
     let marks = marks_in l in
-    let ls : lines (take n (exporting l buffer).list) ≡ map bare marks = ap lines w.text-is ∙ text_lines marks in
+    let ls : lines (take n (exporting l buffer).list) ≡ map bare marks = ap lines w.text_is ∙ text_lines marks in
     let count : length (map bare marks) ≡ l.used = length-map marks bare ∙ length-marks l in
     let ok : fault (import_tests k (map bare marks)) ≡ none =
     passes k (map bare marks) m v (well_formed (map bare marks) (omega (arith, count)) (lines-good marks w.good h)) (rw count r)
