@@ -257,7 +257,7 @@ module _ (keys ids : List ℕ) (used i e : ℕ) (o : Ordered keys ids used) (r :
       let long : e - i ≡ suc (e - suc i) = omega (arith, r.some) in
       let far : i < length ids = omega (arith, o.in_ids, inside) in
       let most : e - suc i ≤ used - suc i = omega (arith, r.upto) in
-      rw (long, drop-cons ids i 0 far, map-take, map-drop, slots_ids keys ids used o.in_ids, drop-take (suc i) used ids, take-take (e - suc i) (used - suc i) (drop (suc i) ids) most)
+      rw (long, drop-cons ids i 0 far, map-take (λ (q : Slot). q.id), map-drop (λ (q : Slot). q.id), slots_ids keys ids used o.in_ids, drop-take (suc i) used ids, take-take (e - suc i) (used - suc i) (drop (suc i) ids) most)
 
   pub lines_turn : lines_of (drop i slots) (keys_in (drop i slots)) ≡ line (get_or keys i 0) (take (e - i) (drop i ids)) ++ lines_of (drop e slots) (keys_in (drop e slots))
   lines_turn = rw (parts, run-lines (get_or keys i 0) (slot_at keys ids i) more (drop e slots) of_one rest-past in_order, run-ids)

@@ -59,7 +59,7 @@ whole_length divisions slots = length-append (lines_of slots (keys_in slots)) (s
 module _ (keys ids order : List ℕ) (used n : ℕ) (inside : used ≤ length ids) where
   pub picked_ids : Picked ids used order n → map (mark_id ids) (take n order) ≡ ids_in (slots_of keys ids used)
   unfolding ids_in
-  picked_ids p = p.by-id ∙ ap distinct (sym (slots_ids keys ids used inside))
+  picked_ids p = p.by_id ∙ ap distinct (sym (slots_ids keys ids used inside))
 
   pub picked_count : Picked ids used order n → n ≡ length (ids_in (slots_of keys ids used))
   unfolding ids_in

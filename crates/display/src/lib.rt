@@ -17,7 +17,7 @@ use grid::Divisions;
 use grid_search::GridSearch;
 
 // What `display` answers: how long the text is, or the refusal.
-#[derive(Drop)]
+#[derive(Clone, Copy)]
 pub enum Shown {
     Length(usize),
     Refused(u64),
