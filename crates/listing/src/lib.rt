@@ -19,7 +19,7 @@ use geometry::Position;
 use grid_search::GridSearch;
 
 // A place: what the marks of a listing lie on.
-#[derive(Drop)]
+#[derive(Clone, Copy)]
 pub enum Place {
     // the line through two points
     Line(Position, Position),
@@ -34,14 +34,14 @@ pub enum Place {
 }
 
 // Which of the marks on a place are kept: all, or those whose coordinate on an axis lies in a closed range.
-#[derive(Drop)]
+#[derive(Clone, Copy)]
 pub enum Filter {
     Everything,
     Range { axis: u64, low: f64, high: f64 },
 }
 
 // What a listing answers: how many ids it wrote, or the refusal.
-#[derive(Drop)]
+#[derive(Clone, Copy)]
 pub enum Listed {
     Count(usize),
     Refused(u64),

@@ -19,7 +19,7 @@ use grid_search::GridSearch;
 use windows::{Distance, Window};
 
 // A place made ready for many points: the line through its ends, and the windows for a container's centre and for a point.
-#[derive(Drop)]
+#[derive(Clone, Copy)]
 pub(crate) struct Ready {
     pub(crate) place: Place,
     pub(crate) line: Line,

@@ -74,7 +74,7 @@ fn advanced(n: usize, more: bool) -> usize
 }
 
 // Whether a row's container is near, where its rows end, and how many containers stand before that end.
-#[derive(Drop)]
+#[derive(Clone, Copy)]
 pub(crate) struct Stretch {
     pub(crate) near: bool,
     pub(crate) end: usize,
@@ -122,7 +122,7 @@ fn stretch_of(
 
 // How far a walk over the rows came: the row that it looks at next, where the stretch ends that it is in, which is near, and how
 // many containers stand before that end, and how many of the rows before count.
-#[derive(Drop)]
+#[derive(Clone, Copy)]
 pub(crate) struct Reached {
     pub(crate) row: usize,
     pub(crate) end: usize,

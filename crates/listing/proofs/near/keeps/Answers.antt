@@ -1,0 +1,18 @@
+-- `listing::near::keeps` meets its contract. Assumes nothing.
+use mathlib.Core.Bool.{false}
+use mathlib.Core.Path.{◌≡◌}
+use lib.Dec.{leb}
+use borrow.Author.Tests.{leb-false}
+use Rattle.geometry.proofs.Axes.{axis_entry}
+use Rattle.listing.specs.Place.{passes, unfit_filter}
+use Rattle.listing.proofs.near.keeps.Goals as goal
+
+pub returns-in-Everything : goal.returns-in-Everything
+unfolding passes
+returns-in-Everything c = rw c.in-Everything.is
+
+pub returns-in-Range : goal.returns-in-Range
+unfolding passes unfit_filter
+returns-in-Range c = 
+    let fit : leb c.args.ndim c.in-Range.axis ≡ false = rw c.in-Range.is at c.requires.fact_2 in
+    rw (c.in-Range.is, axis_entry _ _ c.args.x c.requires.fact_1 (leb-false _ _ fit), c.axis-v.ensures)
