@@ -19,7 +19,7 @@ use grid_search::GridSearch;
 use search::Found;
 
 // A container's rows: the first of them, and where they end.
-#[derive(Drop)]
+#[derive(Clone, Copy)]
 struct Stretch {
     from: usize,
     end: usize,
