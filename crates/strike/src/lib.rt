@@ -15,7 +15,7 @@ use grid_search::GridSearch;
 use table::ItemId;
 
 // What `strike` answers: how many rows went, or the refusal.
-#[derive(Drop)]
+#[derive(Clone, Copy)]
 pub enum Struck {
     Removed(usize),
     Refused(u64),
