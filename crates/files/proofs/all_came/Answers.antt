@@ -5,12 +5,8 @@ use mathlib.Core.Bool.{◌&&◌}
 use mir.Syntax.{w32}
 use Rattle.files.specs.Files.{all_came}
 use Rattle.files.proofs.Signed.{below-test, end_test}
-use Rattle.files.proofs.all_came.Statement.{statement}
-use Rattle.files.proofs.all_came.Tie as tie
+use Rattle.files.proofs.all_came.Goals as goal
 
-returns : tie.Need-returns
+pub returns : goal.returns
 unfolding all_came
 returns c = ap₂ ◌&&◌ (below-test w32 c.args.opened c.ranges.opened) (end_test c.args.after c.ranges.after)
-
-pub all-came-spec : {M : Type 1} → statement M
-all-came-spec = tie.close (tie.spec returns)
