@@ -14,7 +14,7 @@ use grid_search::GridSearch;
 use table::ItemId;
 
 // What `strike` answers: how many rows went and how many places are in use now, or the refusal.
-#[derive(Drop)]
+#[derive(Clone, Copy)]
 pub enum Struck {
     Removed(usize, usize),
     Refused(u64),
