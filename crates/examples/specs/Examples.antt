@@ -2,7 +2,7 @@
 -- evaluated against the definitions that the contracts cite: one list, one proof.
 -- Assumes nothing.
 use Rattle.std.specs.Prelude.{ℕ, ◌≡◌, Bool, true, false, List, [], ◌∷◌, ◌++◌, map, replicate, pos, negsuc, Float}
-use Rattle.std.proofs.Math.Option.{Option, none, some, Option·elim}
+use Rattle.std.proofs.Math.Option.{Option, none, some, Option-elim}
 use Rattle.std.specs.Float.{nan, inf, fin}
 use Rattle.std.specs.Float.Ieee.{lt}
 use Rattle.basics.specs.Refusals.{Answer, refused, success}
@@ -57,15 +57,15 @@ of_search (success (some i)) = number i
 
 -- of a check: the bad row and the rows visited, or the rows visited alone
 unfoldable pub of_check : Answer Walk → Stated
-unfolding Option·elim
+unfolding Option-elim
 of_check (refused n) = refusal n
-of_check (success w) = numbers (Option·elim w.bad [] (λ (i : ℕ). i ∷ []) ++ w.visited ∷ [])
+of_check (success w) = numbers (Option-elim w.bad [] (λ (i : ℕ). i ∷ []) ++ w.visited ∷ [])
 
 -- of a look-up: the place found and the places read, or the places read alone
 unfoldable pub of_look_up : Answer Looked → Stated
-unfolding Option·elim
+unfolding Option-elim
 of_look_up (refused n) = refusal n
-of_look_up (success w) = numbers (Option·elim w.place [] (λ (i : ℕ). i ∷ []) ++ w.reads ∷ [])
+of_look_up (success w) = numbers (Option-elim w.place [] (λ (i : ℕ). i ∷ []) ++ w.reads ∷ [])
 
 unfoldable pub of_distance : Answer Float → Stated
 of_distance (refused n) = refusal n
