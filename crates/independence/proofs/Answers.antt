@@ -113,10 +113,10 @@ module _ (s : GridSearch) (l : Holding) (x : List Float) where
       of_other = measured (valued e).0 other.0 other.1 other.2
 
       no_nearer : le (distance s l x j) (distance s l x i) ≡ true
-      no_nearer = rw (of_found, of_other) leading.not-farther
+      no_nearer = rw (of_found, of_other) leading.not_farther
 
       no_lower : eq (distance s l x i) (distance s l x j) ≡ true → j ≤ i
-      no_lower q = rw (sym picked.2, sym other.2) (leading.not-higher (eq-le (away s x other.0) (away s x picked.0) (rw (of_other, of_found) at q)))
+      no_lower q = rw (sym picked.2, sym other.2) (leading.not_higher (eq-le (away s x other.0) (away s x picked.0) (rw (of_other, of_found) at q)))
 
   pub finding : Finding s l x
   unfolding has

@@ -226,7 +226,7 @@ module _ (s : GridSearch) (l new : Library) (sound : fault (library_tests s new)
   left_by (some d) e f =
       let k = passing s l d e in
       let m = sound-file (directory_of (table new)) d k.places-sound f in
-      let long : long_places (file (directory_of (table new)) d) ≡ false = ap (λ (ns : List ℕ). any (λ (n : ℕ). ltb 65536 n) ns) m.1 ∙ k.not-long-places in
+      let long : long_places (file (directory_of (table new)) d) ≡ false = ap (λ (ns : List ℕ). any (λ (n : ℕ). ltb 65536 n) ns) m.1 ∙ k.not-long_places in
       (passes s new (file (directory_of (table new)) d) (record { library-passes = sound; not-long_places = long; places-sound = m.0; entries-are = entries-file (directory_of (table new)) d }), m.1)
 
 -- it passes 24, 13 and 29, in the space that was lent
@@ -265,7 +265,7 @@ module _ (s : GridSearch) where
   placed_by l none e = unfold level any in (refl, refl)
   placed_by l (some d) e =
       let k = passing s l d e in
-      (unfold sound_places in and_left (level (places d)) (fits (places d) d.used) k.places-sound, unfold long_places in k.not-long-places)
+      (unfold sound_places in and_left (level (places d)) (fits (places d) d.used) k.places-sound, unfold long_places in k.not-long_places)
 
   module _ (m : Holding) (v : fault (holding_tests s m) ≡ none) where
     flat_rows : level (lent m).rows ≡ true

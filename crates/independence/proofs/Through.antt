@@ -126,7 +126,7 @@ up_to_date s l d c a =
     let q = passed_all s h c a in
     let k = passing s l d (accepted-fit s h c q) in
     let new = left s l c in
-    let b = builds s new d (left_passes s l c (plain_passes s h c q)) k.not-long-places k.places-sound (places_left s h c q) in
+    let b = builds s new d (left_passes s l c (plain_passes s h c q)) k.not-long_places k.places-sound (places_left s h c q) in
     let after = (step_done s h c q).0 in
     record {
       directory-is =

@@ -1,7 +1,7 @@
 -- Near and listed: of which ids, whatever the choice among them and the list lent for them, and how far from a position an id is. Where a query is refused, no id is near or listed.
 -- Assumes nothing.
 use Rattle.std.specs.Prelude.{ℕ, Bool, ◌&&◌, List, [], ◌∷◌, ◌++◌, map, Float}
-use Rattle.std.proofs.Math.Option.{Option·elim}
+use Rattle.std.proofs.Math.Option.{Option-elim}
 use Rattle.std.specs.Float.{nan}
 use Rattle.basics.specs.Lists.{has}
 use Rattle.basics.specs.Refusals.{Test, fault, is_none}
@@ -31,8 +31,8 @@ near s h x i = pass (near_tests s h x) && has i (map id_in (near_rows s x (rows_
 
 -- the computed distance of the id's mark from the position: that of the id's row in the position's container, and a NaN where it has none there
 unfoldable pub distance : GridSearch → Holding → List Float → ℕ → Float
-unfolding Option·elim row_for container_of away
-distance s h x i = Option·elim (row_for (slotted (container_of s x) i) (rows_in h)) nan (away s x)
+unfolding Option-elim row_for container_of away
+distance s h x i = Option-elim (row_for (slotted (container_of s x) i) (rows_in h)) nan (away s x)
 
 -- the ids on a place
 unfoldable pub ids_in : GridSearch → Holding → Asked → Filter → List ℕ
