@@ -1,2 +1,0 @@
--- What the proofs of the mesh view share.
-pub mod View
