@@ -126,7 +126,7 @@ module _ (n : ℕ) (m : Mesh) (t : Settings) (l : IndexLists) (a : Accepted n m 
       (λ b good none_over is.
       each_with (λ (x : List Float). ltb (cell_key g x) (containers (counts n k.grid.ndiv)) ≡ true) (λ (x : List Float). good_slot_lem (record { key = cell_key g x; id = i }) ≡ true) (box_corners b)
       (λ x e. both e (lt-ltb i (cell_count n m) (omega (arith, j, count))))
-      (corner-keys g b good (ap length r.divisions ∙ r.divisions-length) (ap length r.xmin ∙ r.xmin-length) a.divisions (rw is at none_over)))
+      (corner-keys g b good (ap length r.divisions ∙ r.divisions-length) (ap length r.xmin ∙ r.xmin_length) a.divisions (rw is at none_over)))
       good-boxes (any_none (λ (b : Box). p b && box_exceeds g b) w.all-boxes a.inside))
       (none_filed (good_slot_lem))
 
