@@ -15,16 +15,18 @@ pub fn open(rt: &impl Files<File = File>, path: &[u8]) -> io::Result<File> {
     }
 }
 
-// Says on standard error why a file could not be opened, in the system's words: the number after them is left out.
+// Says on standard error why a file could not be opened, in the system's words: its number for them is left out.
 pub fn fail(stderr: &impl Print, path: &[u8], error: io::Error) {
     let text = InlineText::<80>::of(error);
-    let words = match text.as_str().split_once(" (os error ") {
-        Some((words, _)) => words,
-        None => text.as_str(),
+    let bytes = text.as_str().as_bytes();
+    let end = match text.as_str().find(" (os error ") {
+        Some(at) => at,
+        None => bytes.len(),
     };
     let _ = stderr.write_all(path);
     let _ = stderr.write_all(b": ");
-    let _ = stderr.println(words);
+    let _ = stderr.write_all(&bytes[..end]);
+    let _ = stderr.write_all(b"\n");
 }
 
 // The next number: eight bytes, the lowest first; 0 past the end.

@@ -1,0 +1,8 @@
+-- `replay::mesh::among` is safe and ends: the cells left to read are the measure. Assumes nothing.
+use Rattle.replay.proofs.mesh.among.Given as goal
+
+abbrev pub invariant-loop-left : goal.invariant-loop-left
+invariant-loop-left l = Unit {0}
+
+abbrev pub decreases-loop-left : goal.decreases-loop-left
+decreases-loop-left l = l.left
