@@ -5,9 +5,10 @@ use native.Mathlib.Omega.{arith}
 use mathlib.Core.Path.{◌≡◌, refl, subst}
 use mathlib.Core.Bool.{true, false, not, ◌&&◌, ◌||◌}
 use mathlib.Core.Option.{Option, none, some}
+use mathlib.Core.List.{List, []}
 use lib.Dec.{ltb, eqb}
 use lib.ListN.{length}
-use lib.Ieee.{lt, le}
+use lib.Ieee.{Float, lt, le}
 use borrow.Author.Tests.{not-false, eqb-true, eqb-false, ltb-false}
 use Rattle.basics.proofs.Bools.{and_both, or_left, or_right}
 use Rattle.basics.specs.Lists.{all, any}
@@ -24,6 +25,7 @@ use Rattle.cell_rows.specs.Filing.{box_exceeds}
 use Rattle.grid_cells.specs.declared.GridCells.{GridCells}
 use Rattle.grid_cells.specs.Build.{IndexLists, lists_too_long, file_index, make, index, containers_of, low_corner, high_corner, settings_ok, size_tests, given_tests, division_tests, frame_tests, row_tests, later_tests, build_tests, settle_build, build}
 use Rattle.grid_cells.proofs.Ways.{divided}
+use Rattle.cell_search.specs.Search.{asked_tests, cell_search_tests}
 
 pub record Accepted (n : ℕ) (m : Mesh) (t : Settings) (l : IndexLists) : Type 0 where
   pub axes : dimension n ≡ true
@@ -82,3 +84,7 @@ module _ (n : ℕ) (m : Mesh) (t : Settings) (l : IndexLists) (P : GridCells →
       go : (o : Option ℕ) → fault (build_tests n m t l) ≡ o → (settle_build o (make n (measure n m t) t) l).answer ≡ success g → P g (settle_build o (make n (measure n m t) t) l).lists
       go (some r) h e = refused-not r g e
       go none h e = subst (λ (i : GridCells). P i (settle_build none (make n (measure n m t) t) l).lists) (success-is (make n (measure n m t) t).grid g e) (of-made (accepted n m t l h))
+
+-- a search of an index is turned away only for what is asked
+abbrev pub Served : GridCells → Mesh → IndexLists → List Float → List Float → Type 0
+Served g m k zeta x = fault (cell_search_tests g m k zeta x) ≡ fault (asked_tests g [] (length zeta) x)

@@ -30,7 +30,7 @@ use Rattle.cell_index.specs.Index.{good_index, enough_entries, good_rows, good_n
 use Rattle.cell_index.proofs.Linked.{good_slot}
 use Rattle.cell_search.specs.Search.{asked_tests, cell_search_tests}
 use Rattle.cell_claims.specs.Claims.{in_binary64, BuiltIsSound, BuiltServes}
-use Rattle.cell_claims.proofs.Accepted.{Accepted, of_built}
+use Rattle.cell_claims.proofs.Accepted.{Accepted, of_built, Served}
 use Rattle.cell_claims.proofs.Boxes.{Each, Good, Point, Size, boxes-good, longest-size, least_point, greatest_point, each_map, each_keep}
 use Rattle.cell_claims.proofs.Frames.{Limits, limits, Sided, sided, Parts, framed, index-good}
 use Rattle.cell_claims.proofs.Filed.{RowsGood, any_none, none_filed, cells_filed, corner-keys, numbered-ascending, numbered_below, read_back}
@@ -168,7 +168,7 @@ module _ (n : ℕ) (m : Mesh) (t : Settings) (l : IndexLists) (a : Accepted n m 
       (rw (read_back k.rows l.keys l.cells, take-over w.large l.large (length w.large) refl)
       (both (both filed.good filed.order) (both large-below large-ascending))))
 
-  serves : (zeta x : List Float) → fault (cell_search_tests k.grid m (settle_build none k l).lists zeta x) ≡ fault (asked_tests k.grid [] (length zeta) x)
+  serves : (zeta x : List Float) → Served k.grid m (settle_build none k l).lists zeta x
   unfolding cell_search_tests index_tests size_tests asked_tests fault all lists_too_long make file_index index settle_build
   serves zeta x =
       let s : (mesh_too_long k.grid.ndim m || lists_too_long (settle_build none k l).lists) ≡ false = rw (keys_length, cells-length, large-length) a.short in
@@ -180,4 +180,4 @@ pub built_is_sound : BuiltIsSound
 built_is_sound n m t l g f e = of_built n m t l (λ (g : GridCells) (k : IndexLists). sound_index g (cell_count g.ndim m) k ≡ true) (λ a. sound n m t l a f) g e
 
 pub built_serves : BuiltServes
-built_serves n m t l g f e zeta x = of_built n m t l (λ (g : GridCells) (k : IndexLists). fault (cell_search_tests g m k zeta x) ≡ fault (asked_tests g [] (length zeta) x)) (λ a. serves n m t l a f zeta x) g e
+built_serves n m t l g f e zeta x = of_built n m t l (λ (g : GridCells) (k : IndexLists). Served g m k zeta x) (λ a. serves n m t l a f zeta x) g e

@@ -3,7 +3,7 @@
 use Prim.Native.Nat.{ℕ, zero, suc, ◌≤◌, ◌<◌}
 use native.Mathlib.Omega.{arith}
 use mathlib.Core.Path.{◌≡◌, refl, sym, ap, ◌∙◌}
-use mathlib.Core.Bool.{Bool, true, false, not, ◌&&◌}
+use mathlib.Core.Bool.{Bool, true, false, ◌&&◌}
 use mathlib.Core.Option.{none}
 use mathlib.Core.List.{List, [], ◌∷◌}
 use lib.Dec.{ltb, leb, eqb}
@@ -14,7 +14,7 @@ use borrow.Author.Tests.{ltb-true, leb-true, eqb-true, not-false}
 use Rattle.basics.proofs.Bools.{and_both, and_left, and_right}
 use Rattle.basics.specs.Lists.{all, tab, zip_with}
 use Rattle.basics.proofs.Lists.{length-tab, get_or-tab, all_at}
-use Rattle.basics.specs.Refusals.{Test, refuse, fault, code}
+use Rattle.basics.specs.Refusals.{fault, code}
 use Rattle.basics.proofs.Refusals.{Numbered, Passed, unrefused, code-none}
 use Rattle.floats.specs.Rounded.{pow2, pow2⁻}
 use Rattle.geometry.specs.Position.{coords, dimension}
@@ -29,6 +29,7 @@ use Rattle.grid_cells.proofs.Ways.{code_stop, code-past}
 use Rattle.grid_cells.proofs.Early.{sizes_numbered}
 use Rattle.cell_index.specs.Index.{cell_rows, large_cells, corner_limit, ordered, good_index, enough_entries, good_rows, good_numbers, sound_index, index_tests}
 use Rattle.cell_index.specs.Steps.{Usable}
+use Rattle.cell_index.proofs.Later.{later}
 use Rattle.cell_index.proofs.Linked.{good_slot}
 
 -- ordered on every axis, by the test along each
@@ -110,10 +111,6 @@ module _ (g : GridCells) (n : ℕ) (l : IndexLists) (e : sound_index g n l ≡ t
 -- ---- the tests as a number, one way out after the other
 
 module _ (g : GridCells) (m : Mesh) (l : IndexLists) where
-  -- 19, 13
-  abbrev later : List Test
-  later = refuse 19 (broken_mesh g.ndim m) ∷ refuse 13 (not (sound_index g (cell_count g.ndim m) l)) ∷ []
-
   pub index-numbered : Numbered (index_tests g m l)
   unfolding index_tests size_tests
   index-numbered = (λ e. omega arith, (λ e. omega arith, (λ e. omega arith, (λ e. omega arith, tt))))
@@ -121,21 +118,21 @@ module _ (g : GridCells) (m : Mesh) (l : IndexLists) where
   module _ {a : ℕ} (e : a ≡ code (fault (size_tests g.ndim m l))) where
     pub refuse_sizes : (a ≡ 0 → ⊥) → a ≡ code (fault (index_tests g m l))
     unfolding index_tests
-    refuse_sizes h = code_stop (size_tests g.ndim m l) later e h
+    refuse_sizes h = code_stop (size_tests g.ndim m l) (later g m l) e h
 
     module _ (z : a ≡ 0) where
       pub refuse_19 : broken_mesh g.ndim m ≡ true → 19 ≡ code (fault (index_tests g m l))
       unfolding index_tests fault code
-      refuse_19 b = code-past (size_tests g.ndim m l) later (sizes_numbered g.ndim m l) e z (rw b)
+      refuse_19 b = code-past (size_tests g.ndim m l) (later g m l) (sizes_numbered g.ndim m l) e z (rw b)
 
       module _ (b : broken_mesh g.ndim m ≡ false) where
         pub refuse_13 : sound_index g (cell_count g.ndim m) l ≡ false → 13 ≡ code (fault (index_tests g m l))
         unfolding index_tests fault code
-        refuse_13 s = code-past (size_tests g.ndim m l) later (sizes_numbered g.ndim m l) e z (rw (b, s))
+        refuse_13 s = code-past (size_tests g.ndim m l) (later g m l) (sizes_numbered g.ndim m l) e z (rw (b, s))
 
         pub refuse-none : sound_index g (cell_count g.ndim m) l ≡ true → 0 ≡ code (fault (index_tests g m l))
         unfolding index_tests fault code
-        refuse-none s = code-past (size_tests g.ndim m l) later (sizes_numbered g.ndim m l) e z (rw (b, s))
+        refuse-none s = code-past (size_tests g.ndim m l) (later g m l) (sizes_numbered g.ndim m l) e z (rw (b, s))
 
   -- ---- what an accepted index gives
   module _ {a : ℕ} (e : a ≡ code (fault (index_tests g m l))) (z : a ≡ 0) where
