@@ -36,7 +36,7 @@ module _ (s : GridSearch) (l : Library) (buffer exit : List ℕ) where
   shown-length n h =
       let p = fill-success text buffer n (fault (display_tests s l (length buffer))) (sym h.answers) in
       let good : fault (library_tests s l) ≡ none = fault_left (library_tests s l) room p.0 in
-      rw good (over-front text buffer exit n (h.buffer-is ∙ p.1) p.2)
+      rw good (over-front text buffer exit n (h.buffer_is ∙ p.1) p.2)
 
   damaged : (o : Option ℕ) (n : ℕ) → fault (library_tests s l) ≡ o → (fault (library_tests s l) ≡ none → length text ≤ length buffer) → fault (library_tests s l ++ room) ≡ some n → o ≡ some n
   unfolding fault

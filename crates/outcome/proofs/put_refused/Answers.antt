@@ -1,0 +1,16 @@
+-- The line is short.
+-- Assumes nothing.
+use native.Mathlib.Omega.{arith}
+use mathlib.Core.Path.{◌≡◌}
+use lib.ListN.{length}
+use borrow.Author.Rules.{rules}
+use Rattle.text.proofs.Laws.{put_front, refusal_short}
+use Rattle.outcome.proofs.put_refused.Goals as goal
+
+pub put_refusal-requires : goal.put_refusal-requires
+put_refusal-requires c = omega (arith, refusal_short c.args.number c.ranges.number.fits)
+
+pub returns : goal.returns
+returns c =
+    let room : 70804 ≡ length c.args.text.now = search rules in
+    put_front c.put_refusal.ensures (omega (arith, refusal_short c.args.number c.ranges.number.fits, room))
