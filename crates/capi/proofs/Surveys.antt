@@ -41,7 +41,7 @@ module _ (f : Filled) (length n : ℕ) {r : Exported} {text : List ℕ} (g : Exp
   out : {b : Exported} → r ≡ b → ToldList f (number (exported b)) text length (written (exported b) length)
   out {b} e =
       let a : exported b ≡ f.answer = sym (ap exported e) ∙ g.answers in
-      record { returned = ap number a; list-is = g.text-is; count-is = ap (λ (x : Answer ℕ). written x length) a }
+      record { returned = ap number a; list-is = g.text_is; count-is = ap (λ (x : Answer ℕ). written x length) a }
 
   pub out_length : r ≡ export.Length n → ToldList f 0 text length n
   out_length e = out e
