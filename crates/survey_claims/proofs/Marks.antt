@@ -1,12 +1,11 @@
 -- The line that an export writes of a mark is a good one, and its mark is that mark.
 -- Assumes nothing.
-use Prim.Native.Nat.{ℕ, ◌^◌, ◌≤◌, ◌<◌}
-use mathlib.Core.Path.{◌≡◌, refl, sym, ap, ap₂, ◌∙◌}
-use mathlib.Core.Bool.{Bool, true, false, ◌&&◌}
+use Prim.Native.Nat.{ℕ, ◌^◌, ◌<◌}
+use mathlib.Core.Path.{◌≡◌, refl, sym, ap, ◌∙◌}
+use mathlib.Core.Bool.{true, false, ◌&&◌}
 use mathlib.Core.List.{List, [], ◌∷◌, ◌++◌, append_assoc}
-use lib.Dec.{T, ltb, eqb}
+use lib.Dec.{ltb, eqb}
 use lib.ListN.{length}
-use lib.IntN.{ℤ, nat_abs}
 use lib.Ieee.{Float, binary64, fits}
 use borrow.Author.Tests.{ltb-true}
 use Rattle.floats.specs.Tests.{Binary64}
@@ -16,12 +15,12 @@ use Rattle.records.specs.declared.Record.{Record}
 use Rattle.text.specs.Text.{decimal, number_of}
 use Rattle.lines.specs.Pieces.{split}
 use Rattle.lines.proofs.Pieces.{split-joined}
-use Rattle.millimetres.specs.Millimetres.{limit, value_of, nearest_to, is_decimal}
+use Rattle.millimetres.specs.Millimetres.{value_of, nearest_to, is_decimal}
 use Rattle.millimetres.proofs.Laws.{decimal-value, value-decimal}
 use Rattle.decimals.specs.Decimals.{is_digit, is_number, is_coordinate, millimetres, coordinate_text}
 use Rattle.decimals.proofs.Laws.{number-back, coordinate-back, decimal-without, coordinate-without, coordinate-size}
 use Rattle.survey_import.specs.Marks.{field, good_line, mark_of, is_description}
-use Rattle.survey_export.specs.Export.{good_mark, line_of}
+use Rattle.survey_export.specs.Export.{good_mark}
 use Rattle.survey_claims.specs.Claims.{lent}
 use Rattle.survey_claims.proofs.Bytes.{neither}
 

@@ -1,18 +1,17 @@
 -- The claims of specs/Claims.antt.
 -- Assumes nothing.
-use Prim.Native.Nat.{ℕ, ◌≤◌, ◌<◌}
+use Prim.Native.Nat.{ℕ, ◌≤◌}
 use native.Mathlib.Omega.{arith}
 use mathlib.Core.Path.{◌≡◌, refl, sym, ap, ◌∙◌, subst}
-use mathlib.Core.Bool.{Bool, true, false, not, ◌&&◌, not-not}
+use mathlib.Core.Bool.{Bool, true, false, not, not-not}
 use mathlib.Core.Option.{Option, none, some}
-use mathlib.Core.List.{List, [], ◌∷◌, map}
+use mathlib.Core.List.{List, map}
 use lib.Dec.{ltb}
 use lib.ListN.{length, take, length-map}
 use borrow.Author.Tests.{le-ltb}
-use Rattle.basics.specs.Lists.{all, any, over}
-use Rattle.basics.specs.Refusals.{Answer, refused, success, fault}
-use Rattle.basics.specs.Filled.{Filled, fill}
-use Rattle.basics.proofs.Bools.{and_left, and_right}
+use Rattle.basics.specs.Lists.{all, any}
+use Rattle.basics.specs.Refusals.{success, fault}
+use Rattle.basics.specs.Filled.{fill}
 use Rattle.basics.proofs.Filled.{fill-success}
 use Rattle.basics.proofs.Refusals.{unrefused, passed}
 use Rattle.records.specs.declared.Record.{Record}
@@ -23,12 +22,11 @@ use Rattle.millimetres.proofs.Theorems.{theorem as values}
 use Rattle.decimals.specs.Decimals.{millimetres}
 use Rattle.decimals.proofs.Laws.{coordinate-size}
 use Rattle.mark_lists.specs.MarkLists.{MarkList, marks_in, write_marks, mark_lengths, too_many, same_lengths, holds}
-use Rattle.mark_lists.specs.Posts.{Room}
 use Rattle.mark_lists.proofs.Laws.{length-marks, room, marks-written, used-written, lengths-written}
-use Rattle.survey_import.specs.Marks.{mark_of, malformed, good_line, bad_line}
+use Rattle.survey_import.specs.Marks.{mark_of, malformed, bad_line}
 use Rattle.survey_import.specs.Import.{Import, import_tests, settle_import, import_lines, importing}
 use Rattle.survey_export.specs.Export.{good_mark, text_of, export_tests, exporting}
-use Rattle.survey_claims.specs.Claims.{Decimals, lent, Gave, RoundTrip, Accepted}
+use Rattle.survey_claims.specs.Claims.{Decimals, Gave, RoundTrip, Accepted}
 use Rattle.survey_claims.proofs.Marks.{bare, back, decimal_field}
 use Rattle.survey_claims.proofs.Texts.{text_lines, lines-good, lines-marks, well_formed, all_well, marks-good}
 

@@ -1,10 +1,10 @@
 -- The rows of a container side by side: how many of the keys from the front are its own.
 -- Assumes nothing.
-use Prim.Native.Nat.{ℕ, zero, suc, ◌+◌, ◌≤◌, ◌<◌}
+use Prim.Native.Nat.{ℕ, suc, ◌+◌, ◌≤◌, ◌<◌}
 use native.Mathlib.Numerals.{add-one}
 use native.Mathlib.Omega.{arith}
-use mathlib.Core.Path.{◌≡◌, refl, sym, ap, ◌∙◌}
-use mathlib.Core.List.{List, [], ◌∷◌}
+use mathlib.Core.Path.{◌≡◌, refl, ap, ◌∙◌}
+use mathlib.Core.List.{List}
 use lib.ListN.{length, get_or, take, drop}
 use lib.Seq.{slice-cons, slice_empty}
 use borrow.Author.Tests.{eq-eqb, ne_eqb}

@@ -31,16 +31,16 @@ pub overflow_add-n-2 : goal.overflow_add-n-2
 overflow_add-n-2 t c = omega arith
 
 pub put_byte-requires-2 : goal.put_byte-requires-2
-put_byte-requires-2 t c = 
+put_byte-requires-2 t c =
     omega (
-    arith,
-    step c.args.n c.if-n-lt10.false,
+      arith,
+      step c.args.n c.if-n-lt10.false,
     )
 
 pub shape_of-buffer : goal.shape_of-buffer
 shape_of-buffer t c = c.put_byte-2.auto.buffer ∙ c.put_decimal-next.auto.buffer
 
 pub returns : goal.returns
-returns t c = 
+returns t c =
     rw (decimal_step _ c.if-n-lt10.false)
     (put_both c.put_decimal-next.ensures c.put_byte-2.ensures)

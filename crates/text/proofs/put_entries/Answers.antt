@@ -8,7 +8,7 @@ unfolding entries
 loop-i-init c = (search rules, put-nothing _ _)
 
 pub put_entry-next-requires : goal.put_entry-next-requires
-put_entry-next-requires c = 
+put_entry-next-requires c =
     let a = c.args in
     let l = c.loop-i in
     let inside : l.i < length a.numbers.now = search rules in
@@ -21,7 +21,7 @@ put_entry-next-requires c =
     )
 
 pub loop-i-preserved : goal.loop-i-preserved
-loop-i-preserved c = 
+loop-i-preserved c =
     let inside : c.loop-i.i < length c.args.numbers.now = search rules in
     (search rules, rw (entries_more _ _ _ inside) (put_both c.loop-i.invariant.1 c.put_entry-next.ensures))
 
@@ -29,6 +29,6 @@ pub shape_of-buffer : goal.shape_of-buffer
 shape_of-buffer c = put-length c.loop-i.invariant.1
 
 pub returns : goal.returns
-returns c = 
+returns c =
     let all : length c.args.numbers.now ≤ c.loop-i.i = search rules in
     rw take_all at c.loop-i.invariant.1
