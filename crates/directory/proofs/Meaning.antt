@@ -13,7 +13,7 @@ use Rattle.basics.specs.Lists.{all, keep, has}
 use Rattle.basics.proofs.Bools.{by_test, both, and_both, or-true}
 use Rattle.sorting.specs.Ascent.{ascending}
 use Rattle.table.specs.declared.Row.{Row}
-use Rattle.table.specs.Rows.{Slot, slot_of, before, chain, sorted, key_in}
+use Rattle.table.specs.Rows.{slot_of, before, chain, sorted, key_in}
 use Rattle.table.proofs.First.{key-le}
 use Rattle.directory.specs.Entries.{Entry, entry, key_of, join, entries_from, directory_of}
 use Rattle.directory.specs.Claims.{lower_rows, rows_within, right}

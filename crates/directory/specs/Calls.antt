@@ -1,10 +1,10 @@
 -- Calls on a library that has a directory. One statement over all of them: a call with a directory is the call without, with 24 and 13 covering both, 29 directly
 -- after them, and 12 covering the directory's places as they would stand after the call; a call that changes the rows leaves the directory of the new rows.
 -- Assumes nothing.
-use Rattle.std.specs.Prelude.{ℕ, ◌≡◌, Bool, cond, not, ◌&&◌, ◌||◌, List, [], ◌∷◌, ◌++◌, length}
+use Rattle.std.specs.Prelude.{ℕ, ◌≡◌, cond, not, ◌&&◌, ◌||◌, List, [], ◌∷◌, ◌++◌, length}
 use Rattle.std.proofs.Math.Option.{Option, none, some}
 use Rattle.basics.specs.Filled.{Filled}
-use Rattle.basics.specs.Refusals.{Test, refuse, fault, Answer, refused, success, answer}
+use Rattle.basics.specs.Refusals.{Test, refuse, fault, Answer, refused, success}
 use Rattle.grid_search.specs.declared.GridSearch.{GridSearch}
 use Rattle.table.specs.Library.{Library, table, space, too_long}
 use Rattle.rows.specs.Damage.{sound}

@@ -18,7 +18,7 @@ use Rattle.directory.specs.Directory.{Directory, directory, entry_at, entries}
 use Rattle.directory.specs.Posts.{PlaceRoom, Fronted, Written}
 use Rattle.directory.proofs.Passing.{entries-count, entries-keys}
 use Rattle.directory_insert.specs.Posts.{entered, found, stepped, write_places, Enters}
-use Rattle.directory_insert.proofs.Places.{place, place-most, new_length, new_keys, new_firsts, new_counts, place_there, old_length, old_keys, old_firsts, old_counts}
+use Rattle.directory_insert.proofs.Places.{place-most, new_length, new_keys, new_firsts, new_counts, place_there, old_length, old_keys, old_firsts, old_counts}
 
 -- ---- the entries that the lists hold: each field of them is the front of its list
 

@@ -11,7 +11,7 @@ use borrow.Author.Tests.{eqb-true, eqb-false, ne_eqb}
 use Rattle.basics.proofs.Bools.{by_test, and_both}
 use Rattle.basics.specs.Lists.{keep}
 use Rattle.table.specs.declared.Row.{Row}
-use Rattle.table.specs.Rows.{Slot, slot_of, key_in, id_in, before, chain, sorted, without}
+use Rattle.table.specs.Rows.{slot_of, key_in, id_in, before, chain, sorted, without}
 use Rattle.table.proofs.Order.{chain-sorted}
 use Rattle.table.proofs.First.{key-le}
 use Rattle.directory.specs.Entries.{Entry, entry, join, entries_from}

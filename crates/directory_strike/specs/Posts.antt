@@ -1,7 +1,7 @@
 -- What the crate's inner functions ask and ensure. Definitions only.
 use Rattle.std.specs.Prelude.{ℕ, suc, ◌+◌, ◌≤◌, ◌<◌, ◌≡◌, false, cond, List, [], ◌∷◌, eqb, length, get_or, set, take, drop}
 use Rattle.directory.specs.Entries.{Entry, entry}
-use Rattle.directory.specs.Directory.{Directory, directory, entries, places}
+use Rattle.directory.specs.Directory.{Directory, directory, entries}
 use Rattle.directory.specs.Posts.{PlaceRoom}
 
 -- how many of the ids are others

@@ -13,7 +13,7 @@ use lib.Ieee.{Float, le, eq}
 use borrow.Author.Tests.{eqb-true, eq-eqb, le-ltb}
 use Rattle.basics.proofs.Bools.{clash, both, and_both, or_either, or-true}
 use Rattle.basics.specs.Lists.{all, has}
-use Rattle.basics.specs.Refusals.{Test, refuse, fault, refused, success, answer, is_none}
+use Rattle.basics.specs.Refusals.{Test, refuse, fault, refused, success, is_none}
 use Rattle.basics.proofs.Refusals.{fault_left, fault-right}
 use Rattle.floats.proofs.Order.{eq-le}
 use Rattle.grid_search.specs.declared.GridSearch.{GridSearch}

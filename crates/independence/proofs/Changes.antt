@@ -28,7 +28,6 @@ use Rattle.rows.proofs.Kept.{inserted-order, accepted-library, accepted_position
 use Rattle.strike.specs.Strike.{id_tests, strike_tests, striking}
 use Rattle.strike.proofs.Kept.{struck-has, struck-space, struck-passes}
 use Rattle.directory.specs.Entries.{directory_of}
-use Rattle.directory.specs.Directory.{Directory}
 use Rattle.directory.proofs.Fewer.{fewer_entries}
 use Rattle.independence.specs.Holdings.{Holding, rows_in, Lent, places_of, lent, holding_tests, Held, held_by}
 use Rattle.independence.specs.Run.{Change, insert, strike, change, changing, step, refusal_in, refusal}

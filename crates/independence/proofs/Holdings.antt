@@ -1,20 +1,19 @@
 -- A library with its directory, or without one: what a call on it answers and leaves goes by one list of tests, those of the holding and then the call's own.
 -- The laws here look at whether there is a directory; all that come after do not.
-use Prim.Native.Nat.{ℕ, ◌≤◌, zero-le}
-use native.Mathlib.Omega.{arith}
+use Prim.Native.Nat.{ℕ, zero-le}
 use mathlib.Core.Path.{◌≡◌, refl, sym, ◌∙◌, ap, ap₂}
-use mathlib.Core.Bool.{Bool, true, false, cond, not, ◌&&◌, ◌||◌}
+use mathlib.Core.Bool.{true, false, not}
 use mathlib.Core.Option.{Option, none, some}
 use mathlib.Core.List.{List, [], ◌∷◌, ◌++◌, map, append_assoc}
-use lib.Dec.{ltb, leb}
+use lib.Dec.{ltb}
 use lib.ListN.{length}
 use lib.Ieee.{Float}
-use borrow.Author.Tests.{le-leb, leb-true}
-use Rattle.basics.proofs.Bools.{by_test, both, and_both, and_left, or_left, or_right}
+use borrow.Author.Tests.{le-leb}
+use Rattle.basics.proofs.Bools.{by_test, both, and_left, or_left, or_right}
 use Rattle.basics.specs.Lists.{any}
-use Rattle.basics.specs.Filled.{Filled, fill}
-use Rattle.basics.specs.Refusals.{Test, refuse, fault, Answer, refused, success, answer}
-use Rattle.basics.proofs.Refusals.{fault_left, fault-right, fault_stop}
+use Rattle.basics.specs.Filled.{fill}
+use Rattle.basics.specs.Refusals.{Test, refuse, fault, refused, success, answer}
+use Rattle.basics.proofs.Refusals.{fault-right, fault_stop}
 use Rattle.grid_search.specs.declared.GridSearch.{GridSearch}
 use Rattle.grid_search.specs.Sheet.{sheet_ok}
 use Rattle.table.specs.declared.Row.{Row}
@@ -28,15 +27,15 @@ use Rattle.rows.proofs.Kept.{empty_passes}
 use Rattle.rows.specs.Insert.{position_tests}
 use Rattle.search.specs.Search.{near_rows, chosen, search_tests, search_answer}
 use Rattle.listing.specs.declared.Filter.{Filter}
-use Rattle.listing.specs.Place.{Asked, is_on, place_tests}
-use Rattle.listing.specs.Listing.{ids_of, occupied, ids_on, on_tests, listing_tests, listing}
+use Rattle.listing.specs.Place.{Asked, place_tests}
+use Rattle.listing.specs.Listing.{occupied, ids_on, on_tests, listing_tests, listing}
 use Rattle.directory.specs.Entries.{directory_of, entries_from}
 use Rattle.directory.specs.Directory.{Directory, places, file, entries, long_places, sound_places, roomy_places}
 use Rattle.directory.specs.Calls.{directory_tests, filed_by, filed_unless, filing, asked_unless, asking, filled_unless, filling}
 use Rattle.directory.proofs.Passing.{passing, passes}
 use Rattle.directory.proofs.Kept.{entries-file, sound-file}
 use Rattle.independence.specs.Holdings.{Holding, bare, indexed, rows_in, Lent, places_of, lent, long_in, places_used, tests_by, holding_tests, Held, held_by, found_by, searching, listed_by, listing_in}
-use Rattle.independence.specs.Queries.{near_tests, placed_tests, ids_in}
+use Rattle.independence.specs.Queries.{near_tests, ids_in}
 
 -- ---- a last test that does not fail
 

@@ -7,13 +7,11 @@ use mathlib.Core.List.{List}
 use lib.ListN.{length}
 use lib.Ieee.{Float}
 use Rattle.basics.proofs.Bools.{by_test, clash}
-use Rattle.basics.specs.Filled.{Filled}
 use Rattle.basics.specs.Refusals.{fault, Answer, refused, success, is_none}
 use Rattle.grid_search.specs.declared.GridSearch.{GridSearch}
 use Rattle.table.specs.Rows.{own, without}
 use Rattle.table.specs.Library.{Library, table, write, blank}
 use Rattle.table.proofs.Libraries.{table-write}
-use Rattle.rows.specs.Damage.{library_tests}
 use Rattle.rows.specs.Turn.{Turn, settle}
 use Rattle.search.specs.Search.{search_answer}
 use Rattle.listing.specs.declared.Filter.{Filter}
@@ -21,16 +19,16 @@ use Rattle.listing.specs.Place.{Asked}
 use Rattle.listing.specs.Listing.{listing}
 use Rattle.directory.specs.Entries.{directory_of}
 use Rattle.strike.specs.Strike.{strike_tests, striking}
-use Rattle.directory.specs.Directory.{Directory, places, file, roomy_places}
+use Rattle.directory.specs.Directory.{Directory, places, roomy_places}
 use Rattle.directory.proofs.Fewer.{fewer_entries}
 use Rattle.directory.specs.Calls.{Building, building, directory_tests, filed_by, filed_unless, filing, asked_unless, asking, filled_unless, filling}
 use Rattle.directory.proofs.Passing.{passing}
 use Rattle.directory.proofs.Kept.{matching-roomy, used-file, builds}
-use Rattle.independence.specs.Holdings.{Holding, bare, indexed, rows_in, places_of, tests_by, holding_tests, Held, held_by, found_by, searching, listed_by, listing_in, places_used}
-use Rattle.independence.specs.Run.{Change, strike, Call, change, search, list, counted, found, listed, changing, step, refusal, accepted}
-use Rattle.independence.specs.Claims.{Through, Afresh, SameThrough, UpToDate}
+use Rattle.independence.specs.Holdings.{Holding, bare, indexed, places_of, tests_by, holding_tests, held_by, found_by, searching, listed_by, listing_in, places_used}
+use Rattle.independence.specs.Run.{Change, strike, Call, change, search, list, counted, found, listed, changing, step, accepted}
+use Rattle.independence.specs.Claims.{Through, SameThrough, UpToDate}
 use Rattle.independence.proofs.Holdings.{refiled}
-use Rattle.independence.proofs.Changes.{fits_fewer, plain_tests, counting, left, change_tests, changing-is, changed, fit as accepted-fit, plain_passes, places_left, left_passes, step_done, step-refused}
+use Rattle.independence.proofs.Changes.{fits_fewer, counting, left, change_tests, changing-is, fit as accepted-fit, plain_passes, places_left, left_passes, step_done, step-refused}
 
 module _ (s : GridSearch) (l : Library) (d : Directory) (e : fault (directory_tests s l d) ≡ none) where
   room : roomy_places d (table l) ≡ true

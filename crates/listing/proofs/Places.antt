@@ -7,12 +7,12 @@ use mathlib.Core.Logic.{◌⊎◌, inl, inr}
 use mathlib.Core.Bool.{Bool, true, false, not, ◌&&◌, ◌||◌}
 use mathlib.Core.List.{List}
 use lib.Dec.{T, eqb, leb, ltb}
-use lib.ListN.{length, get_or}
+use lib.ListN.{length}
 use lib.Ieee.{Float, inf, binary64, fits, lt, eq, le}
 use borrow.Author.Tests.{eqb-true, eq-eqb, ne_eqb, not-true, not-false, leb-true, leb-false, le-leb, ltb-false, le-ltb}
 use Rattle.basics.proofs.Bools.{by_test, clash, and_left, and_right, or_left, or_right}
 use Rattle.basics.specs.Lists.{zip_with}
-use Rattle.floats.specs.Rounded.{◌⊕◌, ◌⊖◌, zero_f}
+use Rattle.floats.specs.Rounded.{◌⊕◌, ◌⊖◌}
 use Rattle.floats.specs.Tests.{within}
 use Rattle.floats.proofs.Order.{eq-le, eq_turn, le_join}
 use Rattle.floats.proofs.Cases.{zero_of}

@@ -5,7 +5,7 @@ use Rattle.directory.proofs.Builds.{build-refused, build-keys, build-room, build
 use Rattle.directory.proofs.build.Goals as goal
 
 pub returns-then-fault-ne0 : goal.returns-then-fault-ne0
-returns-then-fault-ne0 c = 
+returns-then-fault-ne0 c =
     λ n.
     build-refused c.args.sheet _ _ (c.build_fault-fault.ensures n) c.if-fault-ne0.true
 
@@ -13,6 +13,6 @@ pub write_directory-n-requires : goal.write_directory-n-requires
 write_directory-n-requires c = let told = sym c.if-fault-ne0.false ∙ c.build_fault-fault.ensures 0 in record { used_in_bounds = build-keys c.args.sheet _ _ told; place_room = build-room c.args.sheet _ _ told }
 
 pub returns : goal.returns
-returns c = 
+returns c =
     λ n.
     builds c.args.sheet _ _ (sym c.if-fault-ne0.false ∙ c.build_fault-fault.ensures n) _ c.write_directory-n.ensures

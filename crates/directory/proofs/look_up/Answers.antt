@@ -8,7 +8,7 @@ pub returns-then-fault-ne0 : goal.returns-then-fault-ne0
 returns-then-fault-ne0 c = look-refused c.args.sheet _ _ c.args.key c.directory_fault-fault.ensures c.if-fault-ne0.true
 
 pub find_place-requires : goal.find_place-requires
-find_place-requires c = 
+find_place-requires c =
     let told = sym c.if-fault-ne0.false ∙ c.directory_fault-fault.ensures in
     (place-room _ (passing c.args.sheet _ _ (directory-numbered c.args.sheet _ _ told)).places-sound).0
 

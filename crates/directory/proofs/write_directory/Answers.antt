@@ -4,7 +4,7 @@ use Rattle.directory.proofs.Writes.{written-cleared}
 use Rattle.directory.proofs.write_directory.Goals as goal
 
 pub returns : goal.returns
-returns c = 
+returns c =
     written-cleared _ _ _ c.write_places-n.ensures
     c.clear_u64.ensures
     c.clear_u64-2.ensures

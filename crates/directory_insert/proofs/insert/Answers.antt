@@ -14,29 +14,29 @@ pub judge_mark-judged-requires : goal.judge_mark-judged-requires
 judge_mark-judged-requires c = record { fact_1 = (filed_passing c.args.sheet _ _ (sym c.if-fault-ne0.false ∙ c.directory_fault-fault.ensures)).library-passes; fact_2 = search rules }
 
 pub slice_bounds-into-end : goal.slice_bounds-into-end
-slice_bounds-into-end c = 
+slice_bounds-into-end c =
     let ok = judged_accepts c.args.sheet _ c.args.id.0 c.args.x.now _ c.in-Into.n c.judge_mark-judged.ensures c.in-Into.is in
     ok.most
 
 pub slice_bounds-store_mark-end : goal.slice_bounds-store_mark-end
-slice_bounds-store_mark-end c = 
+slice_bounds-store_mark-end c =
     let ok = judged_accepts c.args.sheet _ c.args.id.0 c.args.x.now _ c.in-Into.n c.judge_mark-judged.ensures c.in-Into.is in
     sym (length-take-le c.in-Into.n c.judge_mark-judged.new.into ok.most)
 
 pub store_mark-requires : goal.store_mark-requires
-store_mark-requires c = 
+store_mark-requires c =
     let z = sym c.if-fault-ne0.false ∙ c.directory_fault-fault.ensures in
     let ok = judged_accepts c.args.sheet _ c.args.id.0 c.args.x.now _ c.in-Into.n c.judge_mark-judged.ensures c.in-Into.is in
     filed_takes c.args.sheet _ _ z c.args.id.0 c.args.x.now c.new-at.result c.new-at.ensures ok
 
 pub returns-in-Into : goal.returns-in-Into
-returns-in-Into c = 
+returns-in-Into c =
     let z = sym c.if-fault-ne0.false ∙ c.directory_fault-fault.ensures in
     let ok = judged_accepts c.args.sheet _ c.args.id.0 c.args.x.now _ c.in-Into.n c.judge_mark-judged.ensures c.in-Into.is in
     filed_stored c.args.sheet _ _ z c.args.id.0 c.args.x.now c.new-at.result c.new-at.ensures ok c.store_mark.ensures
 
 pub returns-in-Refused : goal.returns-in-Refused
-returns-in-Refused c = 
+returns-in-Refused c =
     let z = sym c.if-fault-ne0.false ∙ c.directory_fault-fault.ensures in
     let e = judged_refused c.args.sheet _ c.args.id.0 c.args.x.now _ c.in-Refused.n c.judge_mark-judged.ensures c.in-Refused.is in
     filed_turned c.args.sheet _ _ z c.args.id.0 c.args.x.now e

@@ -13,7 +13,7 @@ pub loop-i-init : goal.loop-i-init
 loop-i-init c = (search rules, search rules, places-start _ c.args.into.now c.args.«dir_used» (length-take-le c.args.«dir_used» c.args.«dir_keys».now c.requires.room))
 
 pub loop-i-preserved : goal.loop-i-preserved
-loop-i-preserved c = 
+loop-i-preserved c =
     let i = c.loop-i.i in
     let into = c.args.into.now in
     let keys = take c.args.«dir_used» c.args.«dir_keys».now in

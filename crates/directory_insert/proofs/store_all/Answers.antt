@@ -10,7 +10,7 @@ pub put-count-requires : goal.put-count-requires
 put-count-requires c = both_takes c.args.id.0 c.args.at c.args.into.now _ _ c.requires c.loop-i.i c.loop-i.invariant.1 c.loop-i-test.true
 
 pub note_row-places-requires : goal.note_row-places-requires
-note_row-places-requires c = 
+note_row-places-requires c =
     let taken = c.loop-i-test.true in
     let t = both_takes c.args.id.0 c.args.at c.args.into.now _ _ c.requires c.loop-i.i c.loop-i.invariant.1 taken in
     let long = (both-lengths c.args.id.0 c.args.at c.args.into.now _ _ c.requires c.loop-i.i c.loop-i.invariant.1).0 in
@@ -23,7 +23,7 @@ pub loop-i-smaller : goal.loop-i-smaller
 loop-i-smaller c = let taken = c.loop-i-test.true in omega (arith, taken)
 
 pub loop-i-preserved : goal.loop-i-preserved
-loop-i-preserved c = 
+loop-i-preserved c =
     let taken = c.loop-i-test.true in (
       omega (arith, taken),
       both_again c.args.id.0 c.args.at c.args.into.now _ _ c.requires c.loop-i.i c.loop-i.invariant.1 taken c.put-count.ensures c.note_row-places.ensures,

@@ -23,6 +23,6 @@ pub clear_u64-requires-3 : goal.clear_u64-requires-3
 clear_u64-requires-3 c = omega (arith, (places-held c.args.id.0 c.args.at c.args.into.now _ _ c.requires c.places_after.ensures c.if-places_after-dir_keys.false c.store_all-counts.ensures).1.1)
 
 pub returns : goal.returns
-returns c = 
+returns c =
     places_stored c.args.id.0 c.args.at c.args.into.now _ _ c.requires c.places_after.ensures c.if-places_after-dir_keys.false c.store_all-counts.ensures
     c.clear_u64.ensures c.clear_u64-2.ensures c.clear_u64-3.ensures

@@ -14,7 +14,7 @@ pub rows_left-left-requires : goal.rows_left-left-requires
 rows_left-left-requires c = (omega (arith, enough c.loop-i.invariant.0 c.loop-i-test.true), c.loop-i.invariant.1)
 
 pub keep_place-at-requires : goal.keep_place-at-requires
-keep_place-at-requires c = 
+keep_place-at-requires c =
     let g = c.loop-i.invariant.0 in
     (g.lower, omega (arith, c.loop-i-test.true, c.requires.room.0), thinning_room g (c.loop-i.i + 1) (omega (arith, c.loop-i-test.true)) c.requires.room)
 
@@ -22,7 +22,7 @@ pub overflow_add-row : goal.overflow_add-row
 overflow_add-row c = record { fits = omega (arith, enough c.loop-i.invariant.0 c.loop-i-test.true) }
 
 pub overflow_add-first : goal.overflow_add-first
-overflow_add-first c = 
+overflow_add-first c =
     let g = c.loop-i.invariant.0 in
     record { fits = omega (arith, g.fewer, enough g c.loop-i-test.true, left_most g c.loop-i-test.true c.rows_left-left.ensures) }
 

@@ -7,7 +7,7 @@ use Rattle.directory_strike.proofs.Pass.{others-next, others_end, part_is}
 use Rattle.directory_strike.proofs.count_others.Goals as goal
 
 pub loop-i-preserved : goal.loop-i-preserved
-loop-i-preserved c = 
+loop-i-preserved c =
     let ids = c.args.ids.now in
     let id = c.args.id in
     let i = c.loop-i.i in
@@ -19,7 +19,7 @@ loop-i-preserved c =
     )
 
 pub returns : goal.returns
-returns c = 
+returns c =
     let ids = c.args.ids.now in
     let id = c.args.id in
     let row = c.args.row in

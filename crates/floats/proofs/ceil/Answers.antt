@@ -71,18 +71,18 @@ pub truncating_f64_to_u64-requires : goal.truncating_f64_to_u64-requires
 truncating_f64_to_u64-requires c = let all_of = asked-below c.args.x (below c) in record { lower_bound = all_of.0; upper_bound = all_of.1 }
 
 pub int_to_float-y : goal.int_to_float-y
-int_to_float-y c = 
+int_to_float-y c =
     castable c.truncating_f64_to_u64.result
     (omega (arith, subst (λ (n : ℕ). n < 2 ^ 52) (sym c.truncating_f64_to_u64.ensures) (small-below c.args.x (below--After-row_known-then-x-3-1 c))))
 
 pub returns-then-t-x : goal.returns-then-t-x
-returns-then-t-x c = 
+returns-then-t-x c =
     let x = c.args.x in
     let t = c.truncating_f64_to_u64-t.ensures in
     ap (λ (n : ℕ). of_int binary64 (pos (n + 1))) t ∙ above_part x (above--After-row_known-then-t-x-1 c) (ap (λ (n : ℕ). lt (of_int binary64 (pos n)) x) (sym t) ∙ c.if-t-x.true)
 
 pub returns-else-t-x : goal.returns-else-t-x
-returns-else-t-x c = 
+returns-else-t-x c =
     let x = c.args.x in
     let t = c.truncating_f64_to_u64-t.ensures in
     above-whole x (above--Else-t-x c) (ap (λ (n : ℕ). lt (of_int binary64 (pos n)) x) (sym t) ∙ c.if-t-x.false)
@@ -92,13 +92,13 @@ unfolding of_bits
 returns-else-x-2 c = large-above c.args.x (held c) c.if-x.true c.if-x-2.false
 
 pub returns-then-y-x : goal.returns-then-y-x
-returns-then-y-x c = 
+returns-then-y-x c =
     let x = c.args.x in
     let t = c.truncating_f64_to_u64.ensures in
     ap (λ (n : ℕ). neg (of_int binary64 (pos n))) t ∙ below_part x (below--Then-y-x c) (ap (λ (n : ℕ). lt x (neg (of_int binary64 (pos n)))) (sym t) ∙ c.if-y-x.true)
 
 pub returns-else-y-x : goal.returns-else-y-x
-returns-else-y-x c = 
+returns-else-y-x c =
     let x = c.args.x in
     let t = c.truncating_f64_to_u64.ensures in
     below-whole x (below--Else-y-x c) (ap (λ (n : ℕ). lt x (neg (of_int binary64 (pos n)))) (sym t) ∙ c.if-y-x.false)

@@ -55,16 +55,16 @@ pub overflow_mul-bb : goal.overflow_mul-bb
 overflow_mul-bb c = omega (arith, bb_lt c)
 
 pub returns-then-f-q : goal.returns-then-f-q
-returns-then-f-q c = 
+returns-then-f-q c =
     let e = f c in
     λ h. rounded_of c.args.s c.args.q c.requires.fact_1 c.requires.fact_2 h (omega (arith, c.if-f-gt36028797018963968.true, c.if-f-q.true)) (omega (arith, c.if-f-gt36028797018963968.true, c.if-f-q.true))
 
 pub returns-then-f-q-2 : goal.returns-then-f-q-2
-returns-then-f-q-2 c = 
+returns-then-f-q-2 c =
     let e = f--Then-f-q-2 c in
     λ h. up_one c.args.s c.args.q c.requires.fact_1 c.requires.fact_2 (omega (arith, c.requires.fact_3)) (omega (arith, c.if-f-q.false)) (omega (arith, c.if-f-q-2.true))
 
 pub returns-then-f-q-ge36028797018963971 : goal.returns-then-f-q-ge36028797018963971
-returns-then-f-q-ge36028797018963971 c = 
+returns-then-f-q-ge36028797018963971 c =
     let e = f--Then-f-q-ge36028797018963971 c in
     λ h. down-one c.args.s c.args.q c.requires.fact_1 c.requires.fact_2 (omega (arith, c.requires.fact_3)) (omega (arith, c.if-f-q-ge36028797018963971.true)) (omega (arith, c.if-f-gt36028797018963968.false))

@@ -40,7 +40,7 @@ pub loop-i-smaller : goal.loop-i-smaller
 loop-i-smaller c = omega arith
 
 pub loop-i-preserved : goal.loop-i-preserved
-loop-i-preserved c = 
+loop-i-preserved c =
     let a = c.args.a in
     let l = c.loop-i in
     let I = c.loop-i-test.true in
@@ -50,14 +50,14 @@ pub overflow_add-result : goal.overflow_add-result
 overflow_add-result c = omega arith
 
 pub returns-then-rest-r-2 : goal.returns-then-rest-r-2
-returns-then-rest-r-2 c = 
+returns-then-rest-r-2 c =
     let l = c.loop-i in
     let a = c.args.a in
     rounded-up a l.r l.rest c.requires.fact_1 c.requires.fact_2 l.invariant.3 l.invariant.2
     (all_read a l.w l.r l.rest l.i c.loop-i-test.false l.invariant) c.if-rest-r-2.true
 
 pub returns-else-rest-r-2 : goal.returns-else-rest-r-2
-returns-else-rest-r-2 c = 
+returns-else-rest-r-2 c =
     let l = c.loop-i in
     let a = c.args.a in
     rounded-down a l.r l.rest c.requires.fact_1 l.invariant.3 l.invariant.2

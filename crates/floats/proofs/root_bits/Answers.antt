@@ -40,7 +40,7 @@ pub assembled-requires : goal.assembled-requires
 assembled-requires c = record { fact_1 = (up c).from; fact_2 = (up c).to; fact_3 = omega (arith, (up c).places.1); fact_4 = omega arith }
 
 pub returns-then-field-eq0 : goal.returns-then-field-eq0
-returns-then-field-eq0 c = 
+returns-then-field-eq0 c =
     let b = c.args.b in
     root-low b c.assembled.result 1074 _ refl c.if-field-eq0.true (digits_pos--After-assembled c) (omega (arith, (up--After-assembled c).places.1)) (up--After-assembled c).exact c.assembled.ensures
 

@@ -46,7 +46,7 @@ pub returns-then-b-lt9218868437227405312 : goal.returns-then-b-lt921886843722740
 returns-then-b-lt9218868437227405312 c = c.root_bits.ensures.value ∙ ap sqrt_of (back c)
 
 pub returns-else-b-lt9218868437227405312 : goal.returns-else-b-lt9218868437227405312
-returns-else-b-lt9218868437227405312 c = 
+returns-else-b-lt9218868437227405312 c =
     let x = c.args.x in
     root_of_infinity x (sym (back--Else-b-lt9218868437227405312 c) ∙ from_infinity (to_bits binary64 x) c.if-b-lt9218868437227405312.false (ap (lt zero_of) (back--Else-b-lt9218868437227405312 c) ∙ above--Else-b-lt9218868437227405312 c))
 

@@ -110,7 +110,7 @@ line_distance-requires c = past_1--Else-not-position_ok-is_coordinate c
 
 pub returns : goal.returns
 unfolding point_cylinder_answer
-returns c = 
+returns c =
     let s = c.args in
     let m = made--After-reduced c in
     let less : Float → Float = λ (d : Float). d ⊖ s.radius in

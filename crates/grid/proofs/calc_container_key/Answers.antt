@@ -41,7 +41,7 @@ index_along-requires c = (sizes c).x.least
 
 pub returns-in_default : goal.returns-in_default
 unfolding exceed
-returns-in_default c = 
+returns-in_default c =
     sym (located-is c.args.ndim c.requires.fact_1 c.args.ndiv c.in_use-n.result c.in_use-n.ensures c.args.side_length c.args.xmin c.args.x
     ∙ rw (along_far _ _ (sym c.index_along.ensures.fact_1 ∙ c.in_default.is)))
 
@@ -50,7 +50,7 @@ index_along-requires-2 c = (sizes--In-Index c).y.least
 
 pub returns-in_default-index_along : goal.returns-in_default-index_along
 unfolding exceed
-returns-in_default-index_along c = 
+returns-in_default-index_along c =
     let i = along-index _ _ _ (sym c.index_along.ensures.fact_1 ∙ c.in-Index.is) in
     sym (located-is c.args.ndim c.requires.fact_1 c.args.ndiv c.in_use-n.result c.in_use-n.ensures c.args.side_length c.args.xmin c.args.x
     ∙ rw (i.0, along_far _ _ (sym c.index_along-2.ensures.fact_1 ∙ c.in_default-index_along.is)))
@@ -60,25 +60,28 @@ index_along-requires-3 c = (sizes--In-Index-index_along c).z.least
 
 pub returns-in_default-index_along-2 : goal.returns-in_default-index_along-2
 unfolding exceed
-returns-in_default-index_along-2 c = 
+returns-in_default-index_along-2 c =
     let i = along-index _ _ _ (sym c.index_along.ensures.fact_1 ∙ c.in-Index.is) in
     let j = along-index _ _ _ (sym c.index_along-2.ensures.fact_1 ∙ c.in-Index-index_along.is) in
     sym (located-is c.args.ndim c.requires.fact_1 c.args.ndiv c.in_use-n.result c.in_use-n.ensures c.args.side_length c.args.xmin c.args.x
     ∙ rw (i.0, j.0, along_far _ _ (sym c.index_along-3.ensures.fact_1 ∙ c.in_default-index_along-2.is)))
 
 pub combined-requires : goal.combined-requires
-combined-requires c = 
-    let n = c.in_use-n.result in record { fact_1 = ranges--In-Index-index_along-2 c; fact_2 = (
+combined-requires c =
+    let n = c.in_use-n.result in record {
+      fact_1 = ranges--In-Index-index_along-2 c;
+      fact_2 = (
         subst (Fits n.x) c.in-Index.is c.index_along.ensures.fact_2,
         (
           subst (Fits n.y) c.in-Index-index_along.is c.index_along-2.ensures.fact_2,
           (subst (Fits n.z) c.in-Index-index_along-2.is c.index_along-3.ensures.fact_2, tt),
         ),
-      ) }
+      );
+    }
 
 pub returns : goal.returns
 unfolding exceed zip_with
-returns c = 
+returns c =
     let i = along-index _ _ _ (sym c.index_along.ensures.fact_1 ∙ c.in-Index.is) in
     let j = along-index _ _ _ (sym c.index_along-2.ensures.fact_1 ∙ c.in-Index-index_along.is) in
     let k = along-index _ _ _ (sym c.index_along-3.ensures.fact_1 ∙ c.in-Index-index_along-2.is) in

@@ -41,6 +41,6 @@ pub overflow_add-result-2 : goal.overflow_add-result-2
 overflow_add-result-2 c = let b = small c.args.ndiv c.args.pivot c.requires.fact_1 c.requires.fact_2 in omega (arith, three_small b.k b.x b.y, two-small b.j b.x, b.i)
 
 pub returns : goal.returns
-returns c = 
+returns c =
     let a = c.args in
     key-is a.ndiv.x a.ndiv.y a.ndiv.z a.pivot.i a.pivot.j a.pivot.k

@@ -31,7 +31,7 @@ middle-requires-3 c = wide (few--After-middle-2 c).k
 
 pub returns : goal.returns
 unfolding centre zip_with
-returns c = 
+returns c =
     let a = c.args in
     rw (← indices-are a.ndim c.requires.fact_1 a.ndiv a.key.0 c.pivot_indices-pivot.result c.pivot_indices-pivot.ensures, ← take_zip (λ (x : Float) (i : ℕ). x ⊕ of_nat i ⊗ a.side_length ⊕ a.side_length ⊘ pow2 1) a.ndim (a.xmin.x ∷ a.xmin.y ∷ a.xmin.z ∷ []) (c.pivot_indices-pivot.result.i ∷ c.pivot_indices-pivot.result.j ∷ c.pivot_indices-pivot.result.k ∷ []), c.middle.ensures, c.middle-2.ensures, c.middle-3.ensures)
     (padded a.ndim _ _ _ c.requires.fact_1)

@@ -15,6 +15,6 @@ returns-then-ratio-n c = record { fact_1 = rw (ne_eqb c.args.ratio c.args.n (oth
 
 pub returns-else-ratio-n : goal.returns-else-ratio-n
 unfolding inner
-returns-else-ratio-n c = 
+returns-else-ratio-n c =
     let a = c.args in
     let e = last a.n a.ratio c.if-ratio-n.false c.requires.fact_2 in record { fact_1 = rw (eq-eqb a.ratio a.n e, e); fact_2 = omega arith }

@@ -10,14 +10,14 @@ loop-i-init c = ap longest (axis_at c.args.ndim 0 c.args.delta c.requires (for_a
 
 pub loop-i-preserved : goal.loop-i-preserved
 unfolding longest_from
-loop-i-preserved c = 
+loop-i-preserved c =
     let l = c.loop-i in
     rw (c.longer-best.ensures, c.axis.ensures, add-one)
     (l.invariant ∙ ap (longest_from l.best l.i) (axis_at c.args.ndim l.i c.args.delta c.requires c.loop-i-test.true))
 
 pub returns : goal.returns
 unfolding longest_from
-returns c = 
+returns c =
     let l = c.loop-i in
     let past : length (coords c.args.ndim c.args.delta) ≤ l.i = omega (arith, coords-length c.args.ndim c.args.delta c.requires, c.loop-i-test.false) in
     sym (l.invariant ∙ rw (drop_of_length-le (coords c.args.ndim c.args.delta) past))

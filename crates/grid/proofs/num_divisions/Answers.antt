@@ -8,7 +8,7 @@ use Rattle.grid.proofs.num_divisions.Goals as goal
 
 pub returns : goal.returns
 unfolding num_divisions shares
-returns c = 
+returns c =
     let a = c.args in
     let d = less a.xmin a.xmax in
     rw (← coords-less a.ndim a.xmin a.xmax, ← c.longest_axis-long.ensures, ← take-shares a.ndiv_long c.longest_axis-long.result a.ndim 0 (d.x ∷ d.y ∷ d.z ∷ []), ← c.share.ensures, ← c.share-2.ensures, ← c.share-3.ensures)

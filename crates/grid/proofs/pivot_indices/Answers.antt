@@ -20,7 +20,7 @@ overflow_mul-n c = let d = sizes c in omega (arith, two-small d.x.most d.y.most)
 
 pub returns : goal.returns
 unfolding pivots
-returns c = 
+returns c =
     let d = sizes--After-struct_known-6-1 c in
     let key = c.args.key.0 in
     let below = rw (← containers-are c.args.ndim c.requires.fact_1 c.args.ndiv c.in_use-d.result c.in_use-d.ensures) at c.requires.fact_3 in

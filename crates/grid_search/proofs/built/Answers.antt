@@ -36,7 +36,7 @@ covered-xmax-requires c = record { fact_1 = c.requires.fact_1; fact_2 = good--Af
 
 pub returns : goal.returns
 unfolding of_bits
-returns c = 
+returns c =
     let a = c.args in
     built-is a.ndim a.low a.high c.requires.fact_1 a.number a.tolerance a.border_tol
     c.number_in_force.result c.border_in_force-border.result c.tolerance_in_force.result c.in_use-low.result c.in_use-high.result

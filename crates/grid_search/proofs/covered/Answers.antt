@@ -33,7 +33,7 @@ in_use-requires c = c.requires.fact_1
 
 pub returns : goal.returns
 unfolding covered_of
-returns c = 
+returns c =
     let a = c.args in
     rw (← counts-are a.ndim c.requires.fact_1 a.ndiv c.in_use-n.result c.in_use-n.ensures, ← take_zip (λ (x : Float) (k : ℕ). x ⊕ a.side ⊗ of_nat k) a.ndim (a.xmin.x ∷ a.xmin.y ∷ a.xmin.z ∷ []) (c.in_use-n.result.x ∷ c.in_use-n.result.y ∷ c.in_use-n.result.z ∷ []), ← c.end_along.ensures, ← c.end_along-2.ensures, ← c.end_along-3.ensures)
     c.in_use.ensures

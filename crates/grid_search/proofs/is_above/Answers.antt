@@ -6,6 +6,6 @@ use Rattle.grid_search.proofs.is_above.Goals as goal
 
 pub returns : goal.returns
 unfolding zip_with
-returns c = 
+returns c =
     let a = c.args in
     rw (above_tests a.ndim (a.low.x ∷ a.low.y ∷ a.low.z ∷ []) (a.high.x ∷ a.high.y ∷ a.high.z ∷ [])) c.on_every_axis.ensures

@@ -9,7 +9,7 @@ use Rattle.grid_search.proofs.lowered.Goals as goal
 
 pub returns-then-border : goal.returns-then-border
 unfolding lowered of_bits
-returns-then-border c = 
+returns-then-border c =
     let a = c.args in
     rw c.if-border.true (moved (λ (z : Float). z ⊖ a.border) a.ndim a.low c.in_use.result c.in_use.ensures)
 

@@ -8,7 +8,7 @@ use Rattle.grid_search.proofs.raised.Goals as goal
 
 pub returns-then-border : goal.returns-then-border
 unfolding raised of_bits
-returns-then-border c = 
+returns-then-border c =
     let a = c.args in
     rw c.if-border.true (moved (λ (z : Float). z ⊕ a.border) a.ndim a.high c.in_use.result c.in_use.ensures)
 

@@ -205,45 +205,45 @@ unfolding of_bits
 h9--Else-sheet-tol c = rw (← c.border_in_force-border.ensures) c.if-border.false
 
 pub returns-then-out_of_limits : goal.returns-then-out_of_limits
-returns-then-out_of_limits c = 
+returns-then-out_of_limits c =
     let a = c.args in
     refused_3 (coords a.ndim a.low) (coords a.ndim a.high) a.number a.tolerance a.border_tol (axes c) (same-axes c)
     (judged c ∙ c.if-out_of_limits.true)
 
 pub returns-then-ndiv_long-eq0 : goal.returns-then-ndiv_long-eq0
-returns-then-ndiv_long-eq0 c = 
+returns-then-ndiv_long-eq0 c =
     let a = c.args in
     refused_4 (coords a.ndim a.low) (coords a.ndim a.high) a.number a.tolerance a.border_tol (axes--Then-ndiv_long-eq0 c) (same-axes--Then-ndiv_long-eq0 c) (h3 c)
     (rw (← c.number_in_force-ndiv_long.ensures) (eq-eqb c.number_in_force-ndiv_long.result 0 c.if-ndiv_long-eq0.true))
 
 pub returns-then-ndiv_long-eq1 : goal.returns-then-ndiv_long-eq1
-returns-then-ndiv_long-eq1 c = 
+returns-then-ndiv_long-eq1 c =
     let a = c.args in
     refused_5 (coords a.ndim a.low) (coords a.ndim a.high) a.number a.tolerance a.border_tol (axes--Then-ndiv_long-eq1 c) (same-axes--Then-ndiv_long-eq1 c) (h3--Then-ndiv_long-eq1 c) (h4 c)
     (rw (← c.number_in_force-ndiv_long.ensures) (eq-eqb c.number_in_force-ndiv_long.result 1 c.if-ndiv_long-eq1.true))
 
 pub returns-then-ndiv_long-gt1024 : goal.returns-then-ndiv_long-gt1024
-returns-then-ndiv_long-gt1024 c = 
+returns-then-ndiv_long-gt1024 c =
     let a = c.args in
     refused_6 (coords a.ndim a.low) (coords a.ndim a.high) a.number a.tolerance a.border_tol (axes--Then-ndiv_long-gt1024 c) (same-axes--Then-ndiv_long-gt1024 c) (h3--Then-ndiv_long-gt1024 c) (h4--Then-ndiv_long-gt1024 c) (h5 c)
     (rw (← c.number_in_force-ndiv_long.ensures) (lt-ltb 1024 c.number_in_force-ndiv_long.result c.if-ndiv_long-gt1024.true))
 
 pub returns-then-not-is_above : goal.returns-then-not-is_above
-returns-then-not-is_above c = 
+returns-then-not-is_above c =
     let a = c.args in
     refused_7 (coords a.ndim a.low) (coords a.ndim a.high) a.number a.tolerance a.border_tol (axes--Then-not-is_above c) (same-axes--Then-not-is_above c) (h3--Then-not-is_above c) (h4--Then-not-is_above c) (h5--Then-not-is_above c) (h6 c)
     (sym c.is_above.ensures ∙ c.if-not-is_above.true)
 
 pub returns-then-tol : goal.returns-then-tol
 unfolding of_bits
-returns-then-tol c = 
+returns-then-tol c =
     let a = c.args in
     refused_8 (coords a.ndim a.low) (coords a.ndim a.high) a.number a.tolerance a.border_tol (axes--Then-tol c) (same-axes--Then-tol c) (h3--Then-tol c) (h4--Then-tol c) (h5--Then-tol c) (h6--Then-tol c) (h7 c)
     (rw (← c.tolerance_in_force-tol.ensures) c.if-tol.true)
 
 pub returns-then-border : goal.returns-then-border
 unfolding of_bits
-returns-then-border c = 
+returns-then-border c =
     let a = c.args in
     refused_9 (coords a.ndim a.low) (coords a.ndim a.high) a.number a.tolerance a.border_tol (axes--Then-border c) (same-axes--Then-border c) (h3--Then-border c) (h4--Then-border c) (h5--Then-border c) (h6--Then-border c) (h7--Then-border c) (h8 c)
     (rw (← c.border_in_force-border.ensures) c.if-border.true)
@@ -264,14 +264,14 @@ built-sheet-requires c = record {
 
 pub returns-then-sheet-tol : goal.returns-then-sheet-tol
 unfolding of_bits
-returns-then-sheet-tol c = 
+returns-then-sheet-tol c =
     let a = c.args in
     refused_10 (coords a.ndim a.low) (coords a.ndim a.high) a.number a.tolerance a.border_tol (axes--Then-sheet-tol c) (same-axes--Then-sheet-tol c) (h3--Then-sheet-tol c) (h4--Then-sheet-tol c) (h5--Then-sheet-tol c) (h6--Then-sheet-tol c) (h7--Then-sheet-tol c) (h8--Then-sheet-tol c) (h9 c)
     (rw (← c.tolerance_in_force-tol.ensures, ← c.built-sheet.ensures) c.if-sheet-tol.true)
 
 pub returns : goal.returns
 unfolding of_bits
-returns c = 
+returns c =
     let a = c.args in
     ap success c.built-sheet.ensures
     ∙ all_passed (coords a.ndim a.low) (coords a.ndim a.high) a.number a.tolerance a.border_tol (axes--Else-sheet-tol c) (same-axes--Else-sheet-tol c) (h3--Else-sheet-tol c) (h4--Else-sheet-tol c) (h5--Else-sheet-tol c) (h6--Else-sheet-tol c) (h7--Else-sheet-tol c) (h8--Else-sheet-tol c) (h9--Else-sheet-tol c)

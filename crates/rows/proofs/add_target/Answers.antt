@@ -11,14 +11,14 @@ returns-then-is_outside c = added_outside c.args.sheet _ c.args.n _ c.requires.f
 
 pub returns-in_default : goal.returns-in_default
 unfolding outside_sheet
-returns-in_default c = 
+returns-in_default c =
     let s = c.args.sheet in
     let e = located-not s _ (sym c.calc_container_key-place.ensures ∙ c.in_default.is) in
     added_exceeds s _ c.args.n _ c.requires.fact_2.0 (sym c.is_outside.ensures ∙ c.if-is_outside.false) e
 
 pub returns-then-among : goal.returns-then-among
 unfolding outside_sheet
-returns-then-among c = 
+returns-then-among c =
     let s = c.args.sheet in
     let o = sym c.is_outside.ensures ∙ c.if-is_outside.false in
     let f = located-key s _ (sym c.calc_container_key-place.ensures ∙ c.in-Key.is) in
@@ -26,7 +26,7 @@ returns-then-among c =
 
 pub returns : goal.returns
 unfolding outside_sheet
-returns c = 
+returns c =
     let s = c.args.sheet in
     let o = sym c.is_outside.ensures ∙ c.if-is_outside.false in
     let f = located-key s _ (sym c.calc_container_key-place.ensures ∙ c.in-Key.is) in

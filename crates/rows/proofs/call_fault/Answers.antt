@@ -9,7 +9,7 @@ pub returns-then-damage-ne0 : goal.returns-then-damage-ne0
 returns-then-damage-ne0 c = of_library c.args.sheet _ c.args.x.now c.library_fault-damage.ensures c.if-damage-ne0.true
 
 pub position_fault-requires : goal.position_fault-requires
-position_fault-requires c = 
+position_fault-requires c =
     let s = c.args.sheet in
     (divided s (whole s _ (numbered s _ (sym c.if-damage-ne0.false ∙ c.library_fault-damage.ensures))).sheet).axes
 

@@ -9,7 +9,7 @@ use Rattle.rows.proofs.Walk.{in_order}
 use Rattle.rows.proofs.is_good.Goals as goal
 
 pub returns : goal.returns
-returns c = 
+returns c =
     let a = c.args in
     rw (c.is_third.ensures, c.is_coordinate.ensures, c.is_coordinate-2.ensures)
     (in_order (third a.ndim a.z) (ltb a.key a.count) (above (slot_before a.bound a.last) (slotted a.key a.id)) (coordinate a.x) (coordinate a.y)

@@ -13,13 +13,13 @@ pub returns-then-fault-ne0 : goal.returns-then-fault-ne0
 returns-then-fault-ne0 c = refused-past c.args.sheet _ c.args.id c.args.x.now c.requires.fact_1 c.position_fault-fault.ensures c.if-fault-ne0.true
 
 pub find_targets-n-requires : goal.find_targets-n-requires
-find_targets-n-requires c = 
+find_targets-n-requires c =
     let s = c.args.sheet in
     let x = c.args.x.now in
     let k = called_past s _ x c.requires.fact_1 (sym c.if-fault-ne0.false ∙ c.position_fault-fault.ensures) in record { fact_1 = called_sheet s _ x k; fact_2 = called_inside s _ x k c.new.ensures; fact_3 = c.requires.fact_2 }
 
 pub returns-then-n-eq0 : goal.returns-then-n-eq0
-returns-then-n-eq0 c = 
+returns-then-n-eq0 c =
     let k = called_past c.args.sheet _ c.args.x.now c.requires.fact_1 (sym c.if-fault-ne0.false ∙ c.position_fault-fault.ensures) in
     judged_exceeds c.args.sheet _ c.args.id c.args.x.now c.new.result c.new.ensures k c.find_targets-n.ensures c.if-n-eq0.true
 
@@ -27,16 +27,16 @@ pub slice_bounds-rows_after-end-2 : goal.slice_bounds-rows_after-end-2
 slice_bounds-rows_after-end-2 c = sym (length-take-le c.find_targets-n.result c.find_targets-n.new.into c.find_targets-n.ensures.most)
 
 pub rows_after-requires : goal.rows_after-requires
-rows_after-requires c = 
+rows_after-requires c =
     let k = called_past c.args.sheet _ c.args.x.now c.requires.fact_1 (sym c.if-fault-ne0.false ∙ c.position_fault-fault.ensures) in
     ordered (called_order c.args.sheet _ c.args.x.now k)
 
 pub returns-then-rows_after-keys : goal.returns-then-rows_after-keys
-returns-then-rows_after-keys c = 
+returns-then-rows_after-keys c =
     let k = called_past c.args.sheet _ c.args.x.now c.requires.fact_1 (sym c.if-fault-ne0.false ∙ c.position_fault-fault.ensures) in
     judged_full c.args.sheet _ c.args.id c.args.x.now c.new.result c.new.ensures k c.find_targets-n.ensures c.if-n-eq0.false c.rows_after.ensures c.if-rows_after-keys.true
 
 pub returns : goal.returns
-returns c = 
+returns c =
     let k = called_past c.args.sheet _ c.args.x.now c.requires.fact_1 (sym c.if-fault-ne0.false ∙ c.position_fault-fault.ensures) in
     judged_into c.args.sheet _ c.args.id c.args.x.now c.new.result c.new.ensures k c.find_targets-n.ensures c.if-n-eq0.false c.rows_after.ensures c.if-rows_after-keys.false

@@ -11,11 +11,11 @@ pub returns-then-not-all_coordinates : goal.returns-then-not-all_coordinates
 returns-then-not-all_coordinates c = bad_coordinates c.args.sheet c.args.x.now c.if-x-ndim.false (sym c.all_coordinates.ensures ∙ c.if-not-all_coordinates.true)
 
 pub returns-then-is_outside : goal.returns-then-is_outside
-returns-then-is_outside c = 
+returns-then-is_outside c =
     bad-place c.args.sheet c.args.x.now c.requires c.if-x-ndim.false c.new.result c.new.ensures (sym c.all_coordinates.ensures ∙ c.if-not-all_coordinates.false)
     (sym c.is_outside.ensures ∙ c.if-is_outside.true)
 
 pub returns : goal.returns
-returns c = 
+returns c =
     placed c.args.sheet c.args.x.now c.requires c.if-x-ndim.false c.new.result c.new.ensures (sym c.all_coordinates.ensures ∙ c.if-not-all_coordinates.false)
     (sym c.is_outside.ensures ∙ c.if-is_outside.false)

@@ -13,20 +13,20 @@ unfolding walk
 loop-visited-init c = (search rules, refl)
 
 pub returns-then-not-is_good : goal.returns-then-not-is_good
-returns-then-not-is_good c = 
+returns-then-not-is_good c =
     let good = good_in c.args.ndim c.args.count in
     let below = c.loop-visited-test.true in
     let bad = sym c.is_good.ensures ∙ c.if-not-is_good.true in
     ap success (stops good _ c.loop-visited.visited (slot_before c.loop-visited.bound c.loop-visited.last) c.loop-visited.invariant.1 (omega (arith, below)) bad)
 
 pub overflow_add-bound : goal.overflow_add-bound
-overflow_add-bound c = 
+overflow_add-bound c =
     let low = sym c.is_good.ensures ∙ c.if-not-is_good.false in
     let key = get_or c.args.keys.now c.loop-visited.visited 0 in
     omega (arith, low-key c.args.ndim c.args.count key _ _ _ _ low, c.requires.fact_1)
 
 pub loop-visited-preserved : goal.loop-visited-preserved
-loop-visited-preserved c = 
+loop-visited-preserved c =
     let good = good_in c.args.ndim c.args.count in
     let passes = sym c.is_good.ensures ∙ c.if-not-is_good.false in
     let on = goes_on good _ c.loop-visited.visited (slot_before c.loop-visited.bound c.loop-visited.last) c.loop-visited.invariant.1 (omega arith) passes in
@@ -35,6 +35,6 @@ loop-visited-preserved c =
     (omega arith, on ∙ ap (λ (p : Option Slot). walk_from good next p rest) (sym (kept _ _)))
 
 pub returns : goal.returns
-returns c = 
+returns c =
     let good = good_in c.args.ndim c.args.count in
     ap success (ends good _ c.loop-visited.visited (slot_before c.loop-visited.bound c.loop-visited.last) c.loop-visited.invariant.1 (omega arith))

@@ -7,7 +7,7 @@ use Rattle.rows.specs.Posts.{good_in, slot_before}
 use Rattle.rows.proofs.walk_rows.Given as goal
 
 abbrev pub invariant-loop-visited : goal.invariant-loop-visited
-invariant-loop-visited l = 
+invariant-loop-visited l =
     (l.visited ≤ l.used)
     × (walk (good_in l.ndim l.count) (table (library l.keys l.ids l.xs l.ys l.zs l.used))
     ≡ walk_from (good_in l.ndim l.count) l.visited (slot_before l.bound l.last) (drop l.visited (table (library l.keys l.ids l.xs l.ys l.zs l.used))))

@@ -21,18 +21,18 @@ pub returns-then-least-square : goal.returns-then-least-square
 returns-then-least-square c = sym (told_by_square c.args.tol_dist c.args.any c.args.least c.args.square (held-least c) (held c) c.requires.fact_2 c.if-least-square.true)
 
 pub returns-then-any : goal.returns-then-any
-returns-then-any c = 
+returns-then-any c =
     ap₂ lt c.sqrt.ensures c.sqrt-then-any.ensures
     ∙ sym (place_nearer c.args.tol_dist c.args.any c.args.least c.args.square c.if-any.true)
 
 -- nor here
 pub returns-then-square-within : goal.returns-then-square-within
 unfolding of_bits
-returns-then-square-within c = 
+returns-then-square-within c =
     let u = and_both _ _ c.if-square-within.true in
     sym (place-near c.args.tol_dist c.args.any c.args.least c.args.square c.if-any.false ∙ c.requires.fact_1 c.args.square (held--Then-square-within c) u.0 u.1)
 
 pub returns : goal.returns
-returns c = 
+returns c =
     ap (λ (v : Float). le v c.args.tol_dist) c.sqrt-2.ensures
     ∙ sym (place-near c.args.tol_dist c.args.any c.args.least c.args.square c.if-any.false)

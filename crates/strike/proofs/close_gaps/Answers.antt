@@ -10,7 +10,7 @@ pub overflow_add-i : goal.overflow_add-i
 overflow_add-i c = record { fits = omega (arith, c.loop-i.invariant.upto, c.requires.room.0) }
 
 pub keep_two-at-requires : goal.keep_two-at-requires
-keep_two-at-requires c = 
+keep_two-at-requires c =
     let g = c.loop-i.invariant in
     (g.lower, omega (arith, c.loop-i-test.true, c.requires.room.0), closing_room g (c.loop-i.i + 2) (omega (arith, c.loop-i-test.true)) c.requires.room)
 
@@ -21,7 +21,7 @@ pub loop-i-preserved : goal.loop-i-preserved
 loop-i-preserved c = closing_two c.loop-i.invariant c.loop-i-test.true c.requires.room c.keep_two-at.ensures
 
 pub keep_row-requires : goal.keep_row-requires
-keep_row-requires c = 
+keep_row-requires c =
     let g = c.loop-i.invariant in
     (g.lower, omega (arith, c.if-i-used.true, c.requires.room.0), closing_room g (c.loop-i.i + 1) (omega (arith, c.if-i-used.true)) c.requires.room)
 

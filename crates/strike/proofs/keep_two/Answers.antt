@@ -23,7 +23,7 @@ pub lower_f64-requires-3 : goal.lower_f64-requires-3
 lower_f64-requires-3 c = (c.requires.0, c.next_unless-next.ensures.1, omega (arith, c.requires))
 
 pub returns : goal.returns
-returns c = 
+returns c =
     lowered-two _ c.requires.0 c.next_unless-next.ensures.0 c.next_unless-after.ensures.0 (λ j. record {
       keys = c.lower_u64.ensures j;
       ids = c.lower_u64-2.ensures j;

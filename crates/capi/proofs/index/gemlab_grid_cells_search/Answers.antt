@@ -24,7 +24,7 @@ answered--In-Refused : (c : goal.In-Refused) → let a = c.args in leaves c.sear
 answered--In-Refused c = rw c.index_of-grid.ensures at c.search-answer.ensures
 
 pub returns-in-Cell : goal.returns-in-Cell
-returns-in-Cell c = 
+returns-in-Cell c =
     let a = c.args in
     told_cell c.search-answer.result a.found.now a.cell.now (answered c) c.in-Cell.c.0 c.in-Cell.is
 
@@ -32,6 +32,6 @@ pub returns-in-Nothing : goal.returns-in-Nothing
 returns-in-Nothing c = let a = c.args in told_none c.search-answer.result a.found.now a.cell.now (answered--In-Nothing c) c.in-Nothing.is
 
 pub returns-in-Refused : goal.returns-in-Refused
-returns-in-Refused c = 
+returns-in-Refused c =
     let a = c.args in
     told_turned c.search-answer.result a.found.now a.cell.now (answered--In-Refused c) c.in-Refused.n c.in-Refused.is

@@ -26,25 +26,25 @@ answered--In-Refused : (c : goal.In-Refused) → let a = c.args in made c.new-ma
 answered--In-Refused c = rw (c.given_number.ensures, c.given_float.ensures, c.given_float-2.ensures) at c.new-made.ensures
 
 pub returns-then-numbers-ne-NUMBERS : goal.returns-then-numbers-ne-NUMBERS
-returns-then-numbers-ne-NUMBERS c = 
+returns-then-numbers-ne-NUMBERS c =
     let a = c.args in
     told_13 a.xmin.now a.xmax.now (given_number a.ndiv_given a.ndiv) (given_float a.tolerance_given a.tolerance) (given_float a.border_tol_given a.border_tol) a.numbers.now a.floats.now
     (rw (ne_eqb (length a.numbers.now) 8 c.if-numbers-ne-NUMBERS.true))
 
 pub returns-then-floats-ne-FLOATS : goal.returns-then-floats-ne-FLOATS
-returns-then-floats-ne-FLOATS c = 
+returns-then-floats-ne-FLOATS c =
     let a = c.args in
     told_13 a.xmin.now a.xmax.now (given_number a.ndiv_given a.ndiv) (given_float a.tolerance_given a.tolerance) (given_float a.border_tol_given a.border_tol) a.numbers.now a.floats.now
     (rw (eq-eqb (length a.numbers.now) 8 c.if-numbers-ne-NUMBERS.false, ne_eqb (length a.floats.now) 17 c.if-floats-ne-FLOATS.true))
 
 pub returns-in-Sheet : goal.returns-in-Sheet
-returns-in-Sheet c = 
+returns-in-Sheet c =
     let a = c.args in
     told-sheet a.xmin.now a.xmax.now (given_number a.ndiv_given a.ndiv) (given_float a.tolerance_given a.tolerance) (given_float a.border_tol_given a.border_tol) a.numbers.now a.floats.now
     c.in-Sheet.s c.write_numbers.new.numbers c.write_floats.new.floats (lengths c) (rw c.in-Sheet.is at (answered c)) c.write_numbers.ensures c.write_floats.ensures
 
 pub returns-in-Refused : goal.returns-in-Refused
-returns-in-Refused c = 
+returns-in-Refused c =
     let a = c.args in
     told-refused a.xmin.now a.xmax.now (given_number a.ndiv_given a.ndiv) (given_float a.tolerance_given a.tolerance) (given_float a.border_tol_given a.border_tol) a.numbers.now a.floats.now
     c.in-Refused.n (lengths--In-Refused c) (rw c.in-Refused.is at (answered--In-Refused c))

@@ -14,6 +14,6 @@ returns-then-floats-ne-FLOATS c = rw (eq-eqb (length c.args.numbers.now) 8 c.if-
 
 pub returns : goal.returns
 unfolding readable
-returns c = 
+returns c =
     let a = c.args in
     rw (eq-eqb (length a.numbers.now) 8 c.if-numbers-ne-NUMBERS.false, eq-eqb (length a.floats.now) 17 c.if-floats-ne-FLOATS.false, c.is_dimension.ensures, c.number_reads.ensures, c.float_reads.ensures, c.float_reads-2.ensures)

@@ -61,6 +61,6 @@ pub shape_of-floats : goal.shape_of-floats
 shape_of-floats c = simp length-set
 
 pub returns : goal.returns
-returns c = 
+returns c =
     rw (c.float_entry.ensures, c.float_entry-2.ensures)
     (sets_whole (floats_of c.args.s) c.args.floats.now (sym c.requires))

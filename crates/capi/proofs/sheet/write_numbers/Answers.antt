@@ -34,6 +34,6 @@ pub shape_of-numbers : goal.shape_of-numbers
 shape_of-numbers c = simp length-set
 
 pub returns : goal.returns
-returns c = 
+returns c =
     rw (c.number_flag.ensures, c.number_entry.ensures, c.float_flag.ensures, c.float_flag-2.ensures)
     (sets_whole (numbers_of c.args.s) c.args.numbers.now (sym c.requires))

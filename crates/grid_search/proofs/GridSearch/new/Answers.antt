@@ -15,12 +15,12 @@ axes--After-sheet_from : (c : goal.After-sheet_from) → dimension (length c.arg
 axes--After-sheet_from c = sym c.is_dimension.ensures ∙ c.if-not-is_dimension.false
 
 pub returns-then-not-is_dimension : goal.returns-then-not-is_dimension
-returns-then-not-is_dimension c = 
+returns-then-not-is_dimension c =
     let a = c.args in
     refused_1 a.xmin.now a.xmax.now a.ndiv a.tolerance a.border_tol (sym c.is_dimension.ensures ∙ c.if-not-is_dimension.true)
 
 pub returns-then-xmax-ndim : goal.returns-then-xmax-ndim
-returns-then-xmax-ndim c = 
+returns-then-xmax-ndim c =
     let a = c.args in
     refused_2 a.xmin.now a.xmax.now a.ndiv a.tolerance a.border_tol (axes c) (ne_eqb (length a.xmax.now) (length a.xmin.now) c.if-xmax-ndim.true)
 
@@ -28,7 +28,7 @@ pub sheet_from-requires : goal.sheet_from-requires
 sheet_from-requires c = axes--After-new-high c
 
 pub returns : goal.returns
-returns c = 
+returns c =
     let a = c.args in
     let d = axes--After-sheet_from c in
     let n = length a.xmin.now in

@@ -22,7 +22,7 @@ returns-then-place-eq2 c = λ v. rw (is-cylinder _ _ _ v c.if-place-eq2.true)
 
 pub returns : goal.returns
 unfolding wrong_length
-returns c = 
+returns c =
     λ v.
     let p = c.args.place in
     let a = c.args.a.now in

@@ -16,21 +16,21 @@ pub holds-requires-in-Cylinder : goal.holds-requires-in-Cylinder
 holds-requires-in-Cylinder c = rw c.in-Cylinder.is at c.requires.made.for_center
 
 pub returns-in-Line : goal.returns-in-Line
-returns-in-Line c = 
+returns-in-Line c =
     let s = c.args.sheet in
     let r = c.args.r in
     center_near s (asked s.ndim r.place) c.args.key.0 c.center_of.result r.center c.center_of.ensures c.requires.made.center_from c.requires.made.center_to
     (c.holds.ensures ∙ ap (lies r.center.from r.center.to) (rw c.in-Line.is (line-told s.ndim _ _ c.center_of.result (c.line_square.ensures _ _ (rw c.in-Line.is at c.requires.made.line)))))
 
 pub returns-in-Circle : goal.returns-in-Circle
-returns-in-Circle c = 
+returns-in-Circle c =
     let s = c.args.sheet in
     let r = c.args.r in
     center_near s (asked s.ndim r.place) c.args.key.0 c.center_of-in-Circle.result r.center c.center_of-in-Circle.ensures c.requires.made.center_from c.requires.made.center_to
     (c.holds-in-Circle.ensures ∙ ap (lies r.center.from r.center.to) (rw c.in-Circle.is (circle-told s.ndim _ c.center_of-in-Circle.result _ c.point_square.ensures)))
 
 pub returns-in-Cylinder : goal.returns-in-Cylinder
-returns-in-Cylinder c = 
+returns-in-Cylinder c =
     let s = c.args.sheet in
     let r = c.args.r in
     center_near s (asked s.ndim r.place) c.args.key.0 c.center_of-in-Cylinder.result r.center c.center_of-in-Cylinder.ensures c.requires.made.center_from c.requires.made.center_to
@@ -38,7 +38,7 @@ returns-in-Cylinder c =
 
 pub returns-in-PlaneXY : goal.returns-in-PlaneXY
 unfolding asked
-returns-in-PlaneXY c = 
+returns-in-PlaneXY c =
     let s = c.args.sheet in
     let r = c.args.r in
     center_near s (asked s.ndim r.place) c.args.key.0 c.center_of-in-PlaneXY.result r.center c.center_of-in-PlaneXY.ensures c.requires.made.center_from c.requires.made.center_to
@@ -47,7 +47,7 @@ returns-in-PlaneXY c =
 
 pub returns-in-PlaneYZ : goal.returns-in-PlaneYZ
 unfolding asked
-returns-in-PlaneYZ c = 
+returns-in-PlaneYZ c =
     let s = c.args.sheet in
     let r = c.args.r in
     center_near s (asked s.ndim r.place) c.args.key.0 c.center_of-in-PlaneYZ.result r.center c.center_of-in-PlaneYZ.ensures c.requires.made.center_from c.requires.made.center_to
@@ -56,7 +56,7 @@ returns-in-PlaneYZ c =
 
 pub returns-in-PlaneXZ : goal.returns-in-PlaneXZ
 unfolding asked
-returns-in-PlaneXZ c = 
+returns-in-PlaneXZ c =
     let s = c.args.sheet in
     let r = c.args.r in
     center_near s (asked s.ndim r.place) c.args.key.0 c.center_of-in-PlaneXZ.result r.center c.center_of-in-PlaneXZ.ensures c.requires.made.center_from c.requires.made.center_to

@@ -13,6 +13,6 @@ returns-in-Everything c = rw c.in-Everything.is
 
 pub returns-in-Range : goal.returns-in-Range
 unfolding passes unfit_filter
-returns-in-Range c = 
+returns-in-Range c =
     let fit : leb c.args.ndim c.in-Range.axis ≡ false = rw c.in-Range.is at c.requires.fact_2 in
     rw (c.in-Range.is, axis_entry _ _ c.args.x c.requires.fact_1 (leb-false _ _ fit), c.axis-v.ensures)

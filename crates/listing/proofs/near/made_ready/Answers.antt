@@ -17,8 +17,9 @@ window_of-requires-2 c = inr refl
 
 pub returns : goal.returns
 unfolding of_bits
-returns c = 
-    record { fact_1 = record {
+returns c =
+    record {
+      fact_1 = record {
         line = c.line_of.ensures;
         for_center = c.window_of.ensures.fact_1;
         for_point = c.window_of-2.ensures.fact_1;
@@ -26,4 +27,6 @@ returns c =
         center_to = c.window_of.ensures.fact_3;
         point_from = c.window_of-2.ensures.fact_2;
         point_to = c.window_of-2.ensures.fact_3;
-      }; fact_2 = refl }
+      };
+      fact_2 = refl;
+    }

@@ -13,7 +13,7 @@ point_lies-requires c = record { fact_1 = c.requires.ndim_value_1; fact_2 = c.re
 
 pub returns : goal.returns
 unfolding point_near
-returns c = 
+returns c =
     let d = place_distance (asked c.args.sheet.ndim c.args.r.place) (coords c.args.sheet.ndim c.args.x) in
     let n : c.point_lies.result ≡ point_near c.args.sheet (asked c.args.sheet.ndim c.args.r.place) (coords c.args.sheet.ndim c.args.x) =
     c.point_lies.ensures

@@ -16,7 +16,7 @@ pub holds-requires-in-Cylinder : goal.holds-requires-in-Cylinder
 holds-requires-in-Cylinder c = rw c.in-Cylinder.is at c.requires.fact_4
 
 pub returns-in-Line : goal.returns-in-Line
-returns-in-Line c = 
+returns-in-Line c =
     c.holds.ensures
     ∙ ap (lies c.args.w.from c.args.w.to) (rw c.in-Line.is (line-told c.args.ndim _ _ c.args.x (c.line_square.ensures _ _ (rw c.in-Line.is at c.requires.fact_3))))
 
@@ -24,7 +24,7 @@ pub returns-in-Circle : goal.returns-in-Circle
 returns-in-Circle c = c.holds-in-Circle.ensures ∙ ap (lies c.args.w.from c.args.w.to) (rw c.in-Circle.is (circle-told c.args.ndim _ c.args.x _ c.point_square.ensures))
 
 pub returns-in-Cylinder : goal.returns-in-Cylinder
-returns-in-Cylinder c = 
+returns-in-Cylinder c =
     c.holds-in-Cylinder.ensures
     ∙ ap (lies c.args.w.from c.args.w.to) (rw c.in-Cylinder.is (cylinder-told c.args.ndim _ _ c.args.x _ (c.line_square-in-Cylinder.ensures _ _ (rw c.in-Cylinder.is at c.requires.fact_3))))
 

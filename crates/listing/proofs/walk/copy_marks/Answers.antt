@@ -12,7 +12,7 @@ unfolding over
 loop-j-init c = (omega arith, (refl, refl))
 
 pub loop-j-preserved : goal.loop-j-preserved
-loop-j-preserved c = 
+loop-j-preserved c =
     let a = c.args in
     let w = c.loop-j in (
       omega (arith, c.loop-j-test.true),
@@ -24,7 +24,7 @@ loop-j-preserved c =
     )
 
 pub returns : goal.returns
-returns c = 
+returns c =
     let a = c.args in
     let w = c.loop-j in
     let e : w.j ≡ a.n = omega arith in

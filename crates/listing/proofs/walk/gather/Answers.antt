@@ -9,7 +9,7 @@ pub loop-row-init : goal.loop-row-init
 loop-row-init c = (refl, c.requires.walked)
 
 pub stretch_of-s-requires : goal.stretch_of-s-requires
-stretch_of-s-requires c = 
+stretch_of-s-requires c =
     let w = c.loop-row.invariant.1 in
     let t = c.loop-row-test.true in record { divided_1 = c.requires.known.checked.sheet; divided_2 = c.requires.known.fit; divided_3 = (c.requires.known.checked.room.0, c.requires.known.small); row_lt_used = (t, c.requires.known.keys_below c.loop-row.row t); made = c.requires.made; ended_1 = w.ended; ended_2 = w.upto; ended_3 = w.near }
 
@@ -20,7 +20,7 @@ pub loop-row-preserved-then-not-s : goal.loop-row-preserved-then-not-s
 loop-row-preserved-then-not-s c = let i = c.loop-row.invariant in (i.0, walked_far i.1 c.stretch_of-s.ensures (not-true _ c.if-not-s.true))
 
 pub row_counts-on-requires : goal.row_counts-on-requires
-row_counts-on-requires c = 
+row_counts-on-requires c =
     let s = c.stretch_of-s.ensures in
     let near = s.alike c.loop-row.row (omega arith) s.past ∙ not-false _ c.if-not-s.false in record { ndim_value_1 = c.requires.known.checked.sheet.axes; ndim_value_2 = c.requires.known.fit; ndim_value_3 = c.requires.known.fit-filter; room_1 = omega (arith, c.loop-row-test.true, c.requires.known.checked.room); room_2 = near; made = c.requires.made }
 
@@ -37,9 +37,12 @@ pub advanced-more-requires : goal.advanced-more-requires
 advanced-more-requires c = omega (arith, c.loop-row.invariant.1.gathered.upto, c.loop-row-test.true, c.requires.known.small)
 
 pub returns-then-more-marks : goal.returns-then-more-marks
-returns-then-more-marks c = 
-    let w = c.loop-row in record { walked_2 = walked-back w.invariant.1 c.stretch_of-s.ensures (not-false _ c.if-not-s.false); marks_len = λ h. last_place c.row_counts-on.result w.n c.advanced-more.result _ c.advanced-more.ensures
-          (omega (arith, length-set w.marks w.n w.row, w.invariant.1.inside)) c.if-more-marks.true }
+returns-then-more-marks c =
+    let w = c.loop-row in record {
+      walked_2 = walked-back w.invariant.1 c.stretch_of-s.ensures (not-false _ c.if-not-s.false);
+      marks_len = λ h. last_place c.row_counts-on.result w.n c.advanced-more.result _ c.advanced-more.ensures
+          (omega (arith, length-set w.marks w.n w.row, w.invariant.1.inside)) c.if-more-marks.true;
+    }
 
 pub overflow_add-row : goal.overflow_add-row
 overflow_add-row c = omega (arith, c.loop-row-test.true, c.requires.known.small)
@@ -48,7 +51,7 @@ pub loop-row-smaller : goal.loop-row-smaller
 loop-row-smaller c = omega (arith, c.loop-row-test.true)
 
 pub loop-row-preserved : goal.loop-row-preserved
-loop-row-preserved c = 
+loop-row-preserved c =
     let w = c.loop-row in (
       length-set w.marks w.n w.row ∙ w.invariant.0,
       walked_next w.invariant.1 c.stretch_of-s.ensures (not-false _ c.if-not-s.false) c.row_counts-on.result c.advanced-more.result c.row_counts-on.ensures

@@ -7,7 +7,7 @@ use Rattle.listing.specs.Posts.{Walked}
 use Rattle.listing.proofs.walk.gather.Given as goal
 
 abbrev pub invariant-loop-row : goal.invariant-loop-row
-invariant-loop-row l = 
+invariant-loop-row l =
     (length l.marks ≡ length l.initial.marks)
     × Walked l.sheet l.r.place l.filter (library l.keys l.ids l.xs l.ys l.zs l.used) l.counts l.places (record { row = l.row; end = l.end; place = l.place; marked = l.n }) l.marks
 

@@ -11,7 +11,7 @@ pub container_end-next-requires : goal.container_end-next-requires
 container_end-next-requires c = let e : c.args.end ≡ c.args.row = omega (arith, c.requires.ended_2, c.if-row-end.false) in record { fact_1 = (c.requires.row_lt_used.0, c.requires.divided_3.0); fact_2 = subst (λ (i : ℕ). CountedFrom c.args.keys.now c.args.used c.args.counts.now c.args.places c.args.place i) e c.requires.ended_1.counted }
 
 pub returns : goal.returns
-returns c = 
+returns c =
     let keys = c.args.keys.now in
     let used = c.args.used in
     let row = c.args.row in
