@@ -2,10 +2,10 @@
 // back with what gemlab gave, and tells how many calls there were and how many differ.
 #![tactic(auto)]
 
+mod cells;
 mod checks;
 mod compared;
 mod library;
-mod mesh;
 
 use std::io::Print;
 
@@ -23,7 +23,7 @@ fn tell(stdout: &impl Print, what: &[u8], counts: &[u64; 64], kind: usize) {
 fn main(rt: HostRuntime) {
     let mut counts = [0u64; 64];
     library::replay(&rt, &rt.stderr(), b"libraries.bin", &mut counts);
-    mesh::replay(&rt, &rt.stderr(), b"meshes.bin", &mut counts);
+    cells::replay(&rt, &rt.stderr(), b"meshes.bin", &mut counts);
     tell(&rt, b"sheets: ", &counts, 1);
     tell(&rt, b"insertions: ", &counts, 2);
     tell(&rt, b"strikings: ", &counts, 10);

@@ -1,5 +1,5 @@
--- `replay::mesh::among` is safe and ends: the cells left to read are the measure. Assumes nothing.
-use Rattle.replay.proofs.mesh.among.Given as goal
+-- `replay::cells::among` is safe and ends: the cells left to read are the measure. Assumes nothing.
+use Rattle.replay.proofs.cells.among.Given as goal
 
 abbrev pub invariant-loop-left : goal.invariant-loop-left
 invariant-loop-left l = Unit {0}

@@ -1,5 +1,5 @@
--- `replay::mesh::meshes` is safe and ends: the turns left are the measure. Assumes nothing.
-use Rattle.replay.proofs.mesh.meshes.Given as goal
+-- `replay::cells::meshes` is safe and ends: the turns left are the measure. Assumes nothing.
+use Rattle.replay.proofs.cells.meshes.Given as goal
 
 abbrev pub invariant-loop-turns : goal.invariant-loop-turns
 invariant-loop-turns l = Unit {0}

@@ -1,6 +1,6 @@
--- `replay::mesh::entries` is safe and ends: the turns left are the measure, and the lists keep their lengths. Assumes nothing.
+-- `replay::cells::entries` is safe and ends: the turns left are the measure, and the lists keep their lengths. Assumes nothing.
 use Rattle.std.proofs.Common.{◌≡◌, length}
-use Rattle.replay.proofs.mesh.entries.Given as goal
+use Rattle.replay.proofs.cells.entries.Given as goal
 
 abbrev pub invariant-loop-turns : goal.invariant-loop-turns
 invariant-loop-turns l = (length l.keys ≡ 512) × (length l.cells ≡ 512) × (length l.large ≡ 64) × (length l.numbers ≡ 6) × (length l.floats ≡ 7)
