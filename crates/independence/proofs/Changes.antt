@@ -32,7 +32,8 @@ use Rattle.directory.proofs.Fewer.{fewer_entries}
 use Rattle.independence.specs.Holdings.{Holding, rows_in, Lent, places_of, lent, holding_tests, Held, held_by}
 use Rattle.independence.specs.Run.{Change, insert, strike, change, changing, step, refusal_in, refusal}
 use Rattle.independence.specs.Histories.{whose, effect}
-use Rattle.independence.proofs.Holdings.{library-passes, order_in, settle_in, places_tests, leaving, held-is, leaving_passes, leaving_lent}
+use Rattle.independence.proofs.Holdings.{library-passes, order_in, settle_in, places_tests, leaving, leaving_passes, leaving_lent}
+use Rattle.independence.proofs.Held.{held-is}
 
 -- ---- a change of a library alone: its own tests, past 24 and 13, and what it answers and leaves where none fails: a clause for each kind of change
 

@@ -1,7 +1,7 @@
 -- A library with its directory, or without one: what a call on it answers and leaves goes by one list of tests, those of the holding and then the call's own.
--- The laws here look at whether there is a directory; all that come after do not.
+-- The laws here and in `Held` look at whether there is a directory; all that come after do not.
 use Prim.Native.Nat.{ℕ, zero-le}
-use mathlib.Core.Path.{◌≡◌, refl, sym, ◌∙◌, ap, ap₂}
+use mathlib.Core.Path.{◌≡◌, refl, sym, ◌∙◌, ap}
 use mathlib.Core.Bool.{true, false, not}
 use mathlib.Core.Option.{Option, none, some}
 use mathlib.Core.List.{List, [], ◌∷◌, ◌++◌, map, append_assoc}
@@ -21,7 +21,7 @@ use Rattle.table.specs.Rows.{slot_of, sorted}
 use Rattle.table.specs.Library.{Library, table, space, too_long, level, fits}
 use Rattle.table.proofs.Libraries.{empty_table, layout_is}
 use Rattle.rows.specs.Damage.{library_tests}
-use Rattle.rows.specs.Turn.{Turn, settle}
+use Rattle.rows.specs.Turn.{settle}
 use Rattle.rows.proofs.Check.{whole, not-long}
 use Rattle.rows.proofs.Kept.{empty_passes}
 use Rattle.rows.specs.Insert.{position_tests}
@@ -31,15 +31,15 @@ use Rattle.listing.specs.Place.{Asked, place_tests}
 use Rattle.listing.specs.Listing.{occupied, ids_on, on_tests, listing_tests, listing}
 use Rattle.directory.specs.Entries.{directory_of, entries_from}
 use Rattle.directory.specs.Directory.{Directory, places, file, entries, long_places, sound_places, roomy_places}
-use Rattle.directory.specs.Calls.{directory_tests, filed_by, filed_unless, filing, asked_unless, asking, filled_unless, filling}
+use Rattle.directory.specs.Calls.{directory_tests, filed_by, filed_unless, asked_unless, asking, filled_unless, filling}
 use Rattle.directory.proofs.Passing.{passing, passes}
 use Rattle.directory.proofs.Kept.{entries-file, sound-file}
-use Rattle.independence.specs.Holdings.{Holding, bare, indexed, rows_in, Lent, places_of, lent, long_in, places_used, tests_by, holding_tests, Held, held_by, found_by, searching, listed_by, listing_in}
+use Rattle.independence.specs.Holdings.{Holding, bare, indexed, rows_in, Lent, places_of, lent, long_in, places_used, tests_by, holding_tests, Held, found_by, searching, listed_by, listing_in}
 use Rattle.independence.specs.Queries.{near_tests, ids_in}
 
 -- ---- a last test that does not fail
 
-fault_last : (us : List Test) (t : Test) → t.fails ≡ false → fault (us ++ t ∷ []) ≡ fault us
+pub fault_last : (us : List Test) (t : Test) → t.fails ≡ false → fault (us ++ t ∷ []) ≡ fault us
 unfolding fault
 fault_last [] t e = rw e
 fault_last (u ∷ us) t e = rw (fault_last us t e)
@@ -64,7 +64,7 @@ module _ (s : GridSearch) where
 
 -- past 24, 13 and 29 the other tests decide, as without a directory
 module _ (s : GridSearch) (l : Library) (d : Directory) (ts : List Test) (e : fault (directory_tests s l d) ≡ none) where
-  own_decide : fault (directory_tests s l d ++ ts) ≡ fault ts
+  pub own_decide : fault (directory_tests s l d ++ ts) ≡ fault ts
   own_decide = fault-right (directory_tests s l d) ts e
 
   as_without : fault (library_tests s l ++ ts) ≡ fault (directory_tests s l d ++ ts)
@@ -148,72 +148,29 @@ refiled (some d) rows = some (file (directory_of rows) d)
 abbrev pub leaving : Holding → Library → Holding
 leaving h new = record { library = new; directory = refiled h.directory (table new) }
 
-module _ (s : GridSearch) (l : Library) (ts : List Test) (a : ℕ) (new : Library) where
-  abbrev plain : Turn ℕ
-  plain = settle (fault (library_tests s l ++ ts)) a new l
-
-  abbrev By : Option Directory → Option ℕ → Held
+-- what `filing` makes of a call, by the tests of the holding and those of the call
+module _ (l : Library) (a : ℕ) (new : Library) where
+  abbrev pub By : Option Directory → Option ℕ → Held
   By o v = settle_in v a (record { library = new; directory = refiled o (table new) }) (record { library = l; directory = o })
 
-  bare-held : held_by s l none plain ≡ By none (fault (tests_by s l none ++ (ts ++ places_tests none (table new))))
-  unfolding held_by tests_by refiled places_tests places_of fits
-  bare-held =
-      go (fault (library_tests s l ++ ts)) refl
-      ∙ ap (By none) (sym (ap fault (sym (append_assoc (library_tests s l) ts (refuse 12 false ∷ []))) ∙ fault_last (library_tests s l ++ ts) (refuse 12 false) refl))
-    where
-      go : (o : Option ℕ) → fault (library_tests s l ++ ts) ≡ o → held_by s l none plain ≡ By none (fault (library_tests s l ++ ts))
-      go o e = ap (λ (v : Option ℕ). held_by s l none (settle v a new l)) e ∙ each o ∙ sym (ap (By none) e)
-        where
-          each : (o : Option ℕ) → held_by s l none (settle o a new l) ≡ By none o
-          each none = unfold settle settle_in in refl
-          each (some n) = unfold settle settle_in in refl
-
   module _ (d : Directory) where
-    abbrev Last : List Test
+    abbrev pub Last : List Test
     Last = places_tests (some d) (table new)
 
-    -- what `filing` makes of the plain call, by the tests of the holding and those of the call
-    abbrev Filed : Option ℕ → Option ℕ → Held
+    abbrev pub Filed : Option ℕ → Option ℕ → Held
     Filed v o = let f = filed_unless v l d (settle o a new l) in record { holding = indexed f.library f.directory; answer = f.answer }
 
-    filed_first : (n : ℕ) (o : Option ℕ) → Filed (some n) o ≡ By (some d) (some n)
+    pub filed_first : (n : ℕ) (o : Option ℕ) → Filed (some n) o ≡ By (some d) (some n)
     unfolding filed_unless settle_in
     filed_first n o = refl
 
-    filed_refused : (n : ℕ) → Filed none (some n) ≡ By (some d) (some n)
+    pub filed_refused : (n : ℕ) → Filed none (some n) ≡ By (some d) (some n)
     unfolding filed_unless filed_by settle settle_in
     filed_refused n = refl
 
-    filed_last : Filed none none ≡ By (some d) (fault Last)
+    pub filed_last : Filed none none ≡ By (some d) (fault Last)
     unfolding filed_unless filed_by settle settle_in refiled places_tests places_of fault roomy_places
     filed_last = by_test (fits (places d) (length (directory_of (table new)))) (λ e. rw e) (λ e. rw e)
-
-    filed_by_lem : (v : Option ℕ) → fault (directory_tests s l d) ≡ v → (o : Option ℕ) → fault ts ≡ o
-        → Filed (fault (directory_tests s l d)) (fault (library_tests s l ++ ts)) ≡ By (some d) (fault (directory_tests s l d ++ (ts ++ Last)))
-    filed_by_lem (some n) e o q =
-        ap (λ (v : Option ℕ). Filed v (fault (library_tests s l ++ ts))) e ∙ filed_first n (fault (library_tests s l ++ ts))
-        ∙ sym (ap (By (some d)) (fault_stop (directory_tests s l d) (ts ++ Last) n e))
-    filed_by_lem none e o q =
-        ap₂ Filed e (fault-right (library_tests s l) ts (passing s l d e).library-passes) ∙ go o q ∙ sym (ap (By (some d)) (own_decide s l d (ts ++ Last) e))
-      where
-        go : (o : Option ℕ) → fault ts ≡ o → Filed none (fault ts) ≡ By (some d) (fault (ts ++ Last))
-        go none q = ap (Filed none) q ∙ filed_last ∙ sym (ap (By (some d)) (fault-right ts Last q))
-        go (some n) q = ap (Filed none) q ∙ filed_refused n ∙ sym (ap (By (some d)) (fault_stop ts Last n q))
-
-    listed-held : held_by s l (some d) plain ≡ By (some d) (fault (tests_by s l (some d) ++ (ts ++ Last)))
-    unfolding held_by filing tests_by
-    listed-held = filed_by_lem (fault (directory_tests s l d)) refl (fault ts) refl
-
-  held_by_lem : (o : Option Directory) → held_by s l o plain ≡ By o (fault (tests_by s l o ++ (ts ++ places_tests o (table new))))
-  held_by_lem none = bare-held
-  held_by_lem (some d) = listed-held d
-
--- a change, by the tests of the holding, its own, and the directory's room
-pub held-is : (s : GridSearch) (h : Holding) (ts : List Test) (a : ℕ) (new : Library)
-    → held_by s h.library h.directory (settle (fault (library_tests s h.library ++ ts)) a new h.library)
-    ≡ settle_in (fault (holding_tests s h ++ (ts ++ places_tests h.directory (table new)))) a (leaving h new) h
-unfolding holding_tests
-held-is s h ts a new = held_by_lem s h.library ts a new h.directory
 
 -- ---- what a change that is accepted leaves
 
