@@ -25,7 +25,7 @@ use std::rt::Files;
 
 // What comes after a part of the marks: more of them, with this number of rows in use; the end of the file, likewise; or nothing,
 // since a mark was turned away or bytes are left over.
-#[derive(Drop)]
+#[derive(Clone, Copy)]
 pub enum Part {
     More(usize),
     Last(usize),
