@@ -18,15 +18,13 @@ use Rattle.basics.proofs.Refusals.{fault_left, fault-right}
 use Rattle.floats.proofs.Order.{eq-le}
 use Rattle.grid_search.specs.declared.GridSearch.{GridSearch}
 use Rattle.table.specs.declared.Row.{Row}
-use Rattle.table.specs.Rows.{slotted, id_in, row_for}
+use Rattle.table.specs.Rows.{id_in}
 use Rattle.table.specs.Library.{Library}
-use Rattle.table.proofs.Ids.{row_for-among}
 use Rattle.rows.specs.Damage.{library_tests}
 use Rattle.directory.specs.Directory.{Directory}
 use Rattle.directory.specs.Calls.{both_tests, directory_tests}
-use Rattle.rows.specs.Insert.{container_of, position_tests}
 use Rattle.search.specs.Search.{near_rows, away, chosen}
-use Rattle.search.proofs.Choice.{Leads, Choice, near_row, chosen_row, chosen_none}
+use Rattle.search.proofs.Choice.{Leads, Choice, chosen_row, chosen_none}
 use Rattle.listing.specs.declared.Filter.{Filter}
 use Rattle.sorting.specs.Ascent.{ascending}
 use Rattle.listing.specs.Place.{Asked, is_on, place_tests}
@@ -37,8 +35,9 @@ use Rattle.independence.specs.Holdings.{Holding, rows_in, tests_by, holding_test
 use Rattle.independence.specs.Queries.{pass, near_tests, near, distance, ids_in, placed_tests, on}
 use Rattle.independence.specs.Claims.{Finding, Writing}
 use Rattle.table.proofs.Libraries.{length-table}
-use Rattle.independence.proofs.Holdings.{order_in, searching-is, listing-is}
+use Rattle.independence.proofs.Holdings.{searching-is, listing-is}
 use Rattle.independence.proofs.Ids.{holds, ids-ascend, ids-no_more}
+use Rattle.independence.proofs.Distances.{only_row}
 use Rattle.independence.proofs.Replies.{value_of_lem, refusal_of}
 use Rattle.independence.proofs.Damage.{clean, says, came_later}
 
@@ -77,18 +76,10 @@ module _ (s : GridSearch) (l : Holding) (x : List Float) where
   unfolding pass is_none
   turned e = ap is_none (refusal_of (fault (near_tests s l x)) (chosen s x rows) (sym (searching-is s l x) ∙ e))
 
-  -- where no test fails, the rows are in strict order: a near row is the only one of its id in the container
-  only_row : fault (near_tests s l x) ≡ none → (r : Row) → Memᴰ r rows → {i : ℕ} → id_in r ≡ i → row_for (slotted (container_of s x) i) (rows_in l) ≡ some r
-  unfolding near_tests
-  only_row v r m e =
-      let n = near_row s x (rows_in l) r m in
-      let order = order_in s l (fault_left (holding_tests s l) (position_tests s x (x ∷ [])) v) in
-      rw (sym e, sym n.there) (row_for-among r (rows_in l) order n.among)
-
-  -- so that its distance is that of the id
+  -- the distance of an id is that of its near row
   measured : fault (near_tests s l x) ≡ none → (r : Row) → Memᴰ r rows → {i : ℕ} → id_in r ≡ i → distance s l x i ≡ away s x r
   unfolding distance Option-elim
-  measured v r m e = rw (only_row v r m e)
+  measured v r m e = rw (only_row s l x v r m e)
 
   -- the id found is that of the row chosen, and an id that is near that of a near row
   module _ (j : ℕ) (e : searching s l x ≡ success (some j)) where

@@ -16,8 +16,8 @@ use Rattle.basics.proofs.Refusals.{passed, unrefused, fault_left, fault-right}
 use Rattle.geometry.specs.Position.{position_of}
 use Rattle.grid_search.specs.declared.GridSearch.{GridSearch}
 use Rattle.table.specs.declared.Row.{Row}
-use Rattle.table.specs.Rows.{slot_of, sorted, id_in, own, without}
-use Rattle.table.specs.Library.{Library, table, write, blank, Space, space, fits, roomy}
+use Rattle.table.specs.Rows.{slot_of, sorted, id_in, own}
+use Rattle.table.specs.Library.{Library, table, blank, Space, space, fits, roomy}
 use Rattle.table.proofs.Ids.{length-own, other-put_in, own-put_in, has-own, sorted-without, other-without, own-without}
 use Rattle.table.proofs.Libraries.{table-write, roomy_fewer}
 use Rattle.rows.specs.Damage.{library_tests}
@@ -34,22 +34,9 @@ use Rattle.independence.specs.Run.{Change, insert, strike, change, changing, ste
 use Rattle.independence.specs.Histories.{whose, effect}
 use Rattle.independence.proofs.Holdings.{library-passes, order_in, settle_in, places_tests, leaving, leaving_passes, leaving_lent}
 use Rattle.independence.proofs.Held.{held-is}
+use Rattle.independence.proofs.Plain.{plain_tests, counting, left}
 
--- ---- a change of a library alone: its own tests, past 24 and 13, and what it answers and leaves where none fails: a clause for each kind of change
-
-unfoldable pub plain_tests : GridSearch → Library → Change → List Test
-plain_tests s l (insert i x) = position_tests s x (points s x) ++ room_tests l (rows_with s i x (table l))
-plain_tests s l (strike i) = id_tests i (table l)
-
-unfoldable pub counting : GridSearch → Change → List Row → ℕ
-counting s (insert i x) rows = length (rows_with s i x rows)
-counting s (strike i) rows = length (own i rows)
-
-unfoldable pub left : GridSearch → Library → Change → Library
-left s l (insert i x) = write (rows_with s i x (table l)) l
-left s l (strike i) = write (without i (table l)) (blank l)
-
--- ---- and with its directory, or without one
+-- ---- a change of a library with its directory, or without one
 
 unfoldable pub own_tests : GridSearch → Holding → Change → List Test
 own_tests s h c = plain_tests s h.library c ++ places_tests h.directory (effect s c (rows_in h))

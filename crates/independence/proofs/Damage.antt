@@ -25,7 +25,8 @@ use Rattle.independence.specs.Run.{Change, insert, strike, Call, change, search,
 use Rattle.independence.specs.Queries.{near_tests, ids_in}
 use Rattle.independence.specs.Claims.{blames}
 use Rattle.independence.proofs.Holdings.{places_tests, searching-is, own_list_tests, listing-is}
-use Rattle.independence.proofs.Changes.{plain_tests, change_tests, own_tests, step_done, step-refused, changed_space, changed_passes}
+use Rattle.independence.proofs.Plain.{plain_tests}
+use Rattle.independence.proofs.Changes.{change_tests, own_tests, step_done, step-refused, changed_space, changed_passes}
 use Rattle.independence.proofs.Runs.{kept}
 
 pub space_kept : (s : GridSearch) (calls : List Call) (l : Holding) → lent (run s l calls) ≡ lent l

@@ -20,7 +20,8 @@ use Rattle.independence.specs.Run.{Change, insert, strike, Call, change, search,
 use Rattle.independence.specs.Histories.{whose, history, effect, built, placing, placed}
 use Rattle.independence.specs.Claims.{standing}
 use Rattle.independence.proofs.Changes.{change_tests, changed, other-effect, own-effect, effect-order, changed_table}
-use Rattle.independence.proofs.Runs.{run_done, run_kept, history-own, history-other, history_kept, kept}
+use Rattle.independence.proofs.Added.{history-own, history-other, history_kept}
+use Rattle.independence.proofs.Runs.{run_done, run_kept, kept}
 
 -- strict order is kept
 pub order_kept : (s : GridSearch) (calls : List Call) (l : Holding) → sorted (map slot_of (rows_in l)) ≡ true → sorted (map slot_of (rows_in (run s l calls))) ≡ true

@@ -160,6 +160,10 @@ module _ (l : Library) (a : ℕ) (new : Library) where
     abbrev pub Filed : Option ℕ → Option ℕ → Held
     Filed v o = let f = filed_unless v l d (settle o a new l) in record { holding = indexed f.library f.directory; answer = f.answer }
 
+    pub filed_last : Filed none none ≡ By (some d) (fault Last)
+    unfolding filed_unless filed_by settle settle_in refiled places_tests places_of fault roomy_places
+    filed_last = by_test (fits (places d) (length (directory_of (table new)))) (λ e. rw e) (λ e. rw e)
+
     pub filed_first : (n : ℕ) (o : Option ℕ) → Filed (some n) o ≡ By (some d) (some n)
     unfolding filed_unless settle_in
     filed_first n o = refl
@@ -167,10 +171,6 @@ module _ (l : Library) (a : ℕ) (new : Library) where
     pub filed_refused : (n : ℕ) → Filed none (some n) ≡ By (some d) (some n)
     unfolding filed_unless filed_by settle settle_in
     filed_refused n = refl
-
-    pub filed_last : Filed none none ≡ By (some d) (fault Last)
-    unfolding filed_unless filed_by settle settle_in refiled places_tests places_of fault roomy_places
-    filed_last = by_test (fits (places d) (length (directory_of (table new)))) (λ e. rw e) (λ e. rw e)
 
 -- ---- what a change that is accepted leaves
 

@@ -15,7 +15,8 @@ use Rattle.independence.specs.Holdings.{Holding, rows_in, lent, holding_tests}
 use Rattle.independence.specs.Run.{Change, Call, change, search, list, step, accepted, run, replies}
 use Rattle.independence.specs.Histories.{whose, history, effect}
 use Rattle.independence.proofs.Changes.{change_tests, changed, step_done, other-effect, own-effect, changed_table, changed_space, changed_passes, accepts_too}
-use Rattle.independence.proofs.Runs.{run_done, replies_done, history-own, history-other, run_kept, history_kept}
+use Rattle.independence.proofs.Added.{history-own, history-other, history_kept}
+use Rattle.independence.proofs.Runs.{run_done, replies_done, run_kept}
 
 -- the second library holds what the first holds of the id
 pub record Related (i : ℕ) (s : GridSearch) (l l' : Holding) : Type 0 where

@@ -2,13 +2,17 @@
 pub mod Ids
 pub mod Holdings
 pub mod Held
+pub mod Plain
 pub mod Changes
 pub mod Replies
+pub mod Added
 pub mod Runs
 pub mod Independent
+pub mod Queries
 pub mod Alike
 pub mod Histories
 pub mod Damage
+pub mod Distances
 pub mod Answers
 pub mod Room
 pub mod Through

@@ -20,7 +20,8 @@ use Rattle.basics.specs.Filled.{Filled, fill}
 use Rattle.independence.specs.Holdings.{Holding, rows_in, lent, holding_tests, Held, held_by, searching, listing_in}
 use Rattle.independence.specs.Queries.{near_tests, ids_in}
 use Rattle.independence.specs.Run.{Change, Call, change, search, list, counted, found, listed, changing, step}
-use Rattle.independence.proofs.Changes.{change_tests, own_tests, counting, changed, changing-held, same-own}
+use Rattle.independence.proofs.Plain.{counting}
+use Rattle.independence.proofs.Changes.{change_tests, own_tests, changed, changing-held, same-own}
 use Rattle.independence.proofs.Holdings.{settle_in, searching-is, own_list_tests, listing-is}
 
 settled : (o : Option ℕ) (a : ℕ) (new old : Holding) → (settle_in o a new old).answer ≡ answer o a

@@ -25,7 +25,8 @@ use Rattle.independence.specs.Run.{insert, strike, change, counted, step}
 use Rattle.independence.specs.Histories.{effect}
 use Rattle.independence.specs.Claims.{Freeing, Vanishing}
 use Rattle.independence.proofs.Holdings.{places_tests, order_in}
-use Rattle.independence.proofs.Changes.{plain_tests, own_tests, change_tests, counting, left, changed, fit, step_done, changed_table, changed_space, changed_passes}
+use Rattle.independence.proofs.Plain.{plain_tests, counting, left}
+use Rattle.independence.proofs.Changes.{own_tests, change_tests, changed, fit, step_done, changed_table, changed_space, changed_passes}
 use Rattle.independence.proofs.Replies.{value_of_lem, refusal_of, reply-is}
 use Rattle.independence.proofs.Damage.{clean, says, came_later}
 use Rattle.independence.proofs.Alike.{near-nothing, on-nothing}

@@ -1,20 +1,21 @@
 -- One more call of a run: a change that is accepted, one that is refused, and what every accepted change keeps.
 use Prim.Native.Nat.{ℕ}
 use mathlib.Core.Path.{◌≡◌, refl, sym, ◌∙◌, ap, subst}
-use mathlib.Core.Bool.{Bool, true, false, cond, not, ◌&&◌, and-false}
+use mathlib.Core.Bool.{true, not}
 use mathlib.Core.Option.{Option, none, some}
 use mathlib.Core.List.{List, [], ◌∷◌, ◌++◌}
 use lib.Dec.{eqb}
 use borrow.Author.Tests.{not-true}
 use Rattle.basics.proofs.Bools.{and_both}
 use Rattle.basics.specs.Lists.{all}
-use Rattle.basics.specs.Refusals.{fault, is_none}
+use Rattle.basics.specs.Refusals.{fault}
 use Rattle.basics.proofs.Refusals.{fault_stop}
 use Rattle.grid_search.specs.declared.GridSearch.{GridSearch}
 use Rattle.independence.specs.Holdings.{Holding, holding_tests}
-use Rattle.independence.specs.Run.{Change, Call, change, search, list, Reply, step, accepted, run, replies}
+use Rattle.independence.specs.Run.{Change, Call, change, search, list, Reply, step, run, replies}
 use Rattle.independence.specs.Histories.{whose, history, other, others}
 use Rattle.independence.proofs.Changes.{change_tests, own_tests, changed, step_done, step-refused}
+use Rattle.independence.proofs.Added.{history_kept}
 
 module _ (s : GridSearch) (l : Holding) (c : Change) (calls : List Call) where
   module _ (e : fault (change_tests s l c) ≡ none) where
@@ -26,29 +27,10 @@ module _ (s : GridSearch) (l : Holding) (c : Change) (calls : List Call) where
     unfolding replies
     replies_done = ap (λ (m : Holding). (step s l (change c)).reply ∷ replies s m calls) (step_done s l c e).0
 
-    pub history_done : (i : ℕ) → history i s l (change c ∷ calls) ≡ cond (eqb (whose c) i && true) (c ∷ history i s (changed s l c) calls) (history i s (changed s l c) calls)
-    unfolding history accepted
-    history_done i =
-        ap (λ (m : Holding). cond (eqb (whose c) i && accepted (step s l (change c)).reply) (c ∷ history i s m calls) (history i s m calls)) (step_done s l c e).0
-        ∙ ap (λ (o : Option ℕ). cond (eqb (whose c) i && is_none o) (c ∷ history i s (changed s l c) calls) (history i s (changed s l c) calls)) (step_done s l c e).1
-
-    pub history-own : (i : ℕ) → eqb (whose c) i ≡ true → history i s l (change c ∷ calls) ≡ c ∷ history i s (changed s l c) calls
-    history-own i f = history_done i ∙ rw f
-
-    pub history-other : (i : ℕ) → eqb (whose c) i ≡ false → history i s l (change c ∷ calls) ≡ history i s (changed s l c) calls
-    history-other i f = history_done i ∙ rw f
-
   module _ (n : ℕ) (e : fault (change_tests s l c) ≡ some n) where
     pub run_kept : run s l (change c ∷ calls) ≡ run s l calls
     unfolding run
     run_kept = ap (λ (m : Holding). run s m calls) (step-refused s l c n e).0
-
-    pub history_kept : (i : ℕ) → history i s l (change c ∷ calls) ≡ history i s l calls
-    unfolding history accepted
-    history_kept i =
-        ap (λ (m : Holding). cond (eqb (whose c) i && accepted (step s l (change c)).reply) (c ∷ history i s m calls) (history i s m calls)) (step-refused s l c n e).0
-        ∙ ap (λ (o : Option ℕ). cond (eqb (whose c) i && is_none o) (c ∷ history i s l calls) (history i s l calls)) (step-refused s l c n e).1
-        ∙ ap (λ (b : Bool). cond b (c ∷ history i s l calls) (history i s l calls)) (and-false (eqb (whose c) i))
 
 -- what holds at first, and is kept by each change that is accepted, holds after every run
 pub kept : (s : GridSearch) (P : Holding → Type 0) → ((l : Holding) (c : Change) → fault (change_tests s l c) ≡ none → P l → P (changed s l c))

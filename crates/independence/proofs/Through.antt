@@ -28,7 +28,8 @@ use Rattle.independence.specs.Holdings.{Holding, bare, indexed, places_of, tests
 use Rattle.independence.specs.Run.{Change, strike, Call, change, search, list, counted, found, listed, changing, step, accepted}
 use Rattle.independence.specs.Claims.{Through, SameThrough, UpToDate}
 use Rattle.independence.proofs.Holdings.{refiled}
-use Rattle.independence.proofs.Changes.{fits_fewer, counting, left, change_tests, changing-is, fit as accepted-fit, plain_passes, places_left, left_passes, step_done, step-refused}
+use Rattle.independence.proofs.Plain.{counting, left}
+use Rattle.independence.proofs.Changes.{fits_fewer, change_tests, changing-is, fit as accepted-fit, plain_passes, places_left, left_passes, step_done, step-refused}
 
 module _ (s : GridSearch) (l : Library) (d : Directory) (e : fault (directory_tests s l d) ≡ none) where
   room : roomy_places d (table l) ≡ true
