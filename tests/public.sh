@@ -17,7 +17,6 @@ strike strike
 search search
 listing search_on search_on_place
 listing search_on_line search_on_circle search_on_cylinder
-listing search_on_plane_xy search_on_plane_yz search_on_plane_xz
 directory build look_up
 directory_insert insert
 directory_strike strike
@@ -28,7 +27,8 @@ survey_import import
 survey_export export
 grid_cells new
 cell_search search
-mesh_view new grid_cells search build
+mesh new
+mesh_view grid_cells search_in search build
 END
     for crate in capi capi_c; do
         # shellcheck disable=SC2046

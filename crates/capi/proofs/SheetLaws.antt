@@ -19,38 +19,31 @@ use Rattle.floats.specs.Rounded.{zero_f}
 use Rattle.floats.specs.Tests.{same_bits, Binary64}
 use Rattle.floats.proofs.Unique.{same_bits-same}
 use Rattle.geometry.specs.Position.{dimension}
-use Rattle.grid_search.specs.declared.GivenU64.{GivenU64}
-use Rattle.grid_search.specs.declared.GivenU64.TheVariants as number
-use Rattle.grid_search.specs.declared.GivenF64.{GivenF64}
-use Rattle.grid_search.specs.declared.GivenF64.TheVariants as float
+use Rattle.std.specs.Prelude.{Option, Some, None}
 use Rattle.grid_search.specs.declared.GridSearch.{GridSearch}
 use Rattle.grid_search.specs.Sheet.{new_sheet, sheet_ok}
 use Rattle.grid_search.proofs.Good.{no_axes}
-use Rattle.capi.specs.Sheets.{given_number, given_float, number_flag, number_entry, float_flag, float_entry, numbers_of, floats_of, sheet_lengths, number_read, float_read, readable, read_sheet, sheet_of, new_in_c, ToldSheet}
+use Rattle.capi.specs.Sheets.{given, given_number, given_float, flag_of, entry_of, numbers_of, floats_of, sheet_lengths, number_read, float_read, readable, read_sheet, sheet_of, new_in_c, ToldSheet}
 
 -- ---- what is written is read back
-number-back : (g : GivenU64) → given_number (number_flag g) (number_entry g) ≡ g
-number-back number.LeftOut = refl
-number-back (number.Given n) = refl
+given_back : {A : Type 0} (empty : A) (g : Option A) → given (flag_of g) (entry_of empty g) ≡ g
+given_back empty None = refl
+given_back empty (Some a) = refl
 
-float_back : (g : GivenF64) → given_float (float_flag g) (float_entry g) ≡ g
-float_back float.LeftOut = refl
-float_back (float.Given x) = refl
+number-reads : (g : Option ℕ) → number_read (flag_of g) (entry_of 0 g) ≡ true
+number-reads None = refl
+number-reads (Some n) = refl
 
-number-reads : (g : GivenU64) → number_read (number_flag g) (number_entry g) ≡ true
-number-reads number.LeftOut = refl
-number-reads (number.Given n) = refl
-
-float_reads : (g : GivenF64) → float_read (float_flag g) (float_entry g) ≡ true
+float_reads : (g : Option Float) → float_read (flag_of g) (entry_of zero_f g) ≡ true
 unfolding same_bits
-float_reads float.LeftOut = refl
-float_reads (float.Given x) = refl
+float_reads None = refl
+float_reads (Some x) = refl
 
 pub read_back : (s : GridSearch) → dimension s.ndim ≡ true → sheet_of (numbers_of s) (floats_of s) ≡ s
 unfolding sheet_of readable read_sheet
 read_back s d =
     rw (d, number-reads s.number, float_reads s.tolerance, float_reads s.border_tol)
-    (rw (number-back s.number, float_back s.tolerance, float_back s.border_tol))
+    (rw (given_back 0 s.number, given_back zero_f s.tolerance, given_back zero_f s.border_tol))
 
 -- ---- damaged lists are no good sheet
 pub damaged : (numbers : List ℕ) (floats : List Float) → readable numbers floats ≡ false → sheet_ok (sheet_of numbers floats) ≡ false
@@ -68,14 +61,14 @@ flag_case flag b h = go (or_either (eqb flag 1) (eqb flag 0 && b) h)
     go (inl e) = inl (eqb-true flag 1 e)
     go (inr e) = let a = and_both (eqb flag 0) b e in inr (eqb-true flag 0 a.0, a.1)
 
-number_kept : (flag n : ℕ) → number_read flag n ≡ true → (number_flag (given_number flag n) ≡ flag) × (number_entry (given_number flag n) ≡ n)
+number_kept : (flag n : ℕ) → number_read flag n ≡ true → (flag_of (given_number flag n) ≡ flag) × (entry_of 0 (given_number flag n) ≡ n)
 number_kept flag n h =
     elim (flag_case flag (eqb n 0) h) [
       | inl e ↦ rw e (refl, refl)
       | inr e ↦ rw e.0 (refl, sym (eqb-true n 0 e.1))
     ]
 
-float_kept : (flag : ℕ) (x : Float) → Binary64 x → float_read flag x ≡ true → (float_flag (given_float flag x) ≡ flag) × (float_entry (given_float flag x) ≡ x)
+float_kept : (flag : ℕ) (x : Float) → Binary64 x → float_read flag x ≡ true → (flag_of (given_float flag x) ≡ flag) × (entry_of zero_f (given_float flag x) ≡ x)
 unfolding fits
 float_kept flag x f h =
     elim (flag_case flag (same_bits x zero_f) h) [
@@ -106,13 +99,9 @@ lists-are numbers floats p q h =
     )
 
 -- ---- a flag that is not 0
-pub given-is_number : (flag n : ℕ) → (flag ≡ 0 → ⊥) → number.Given n ≡ given_number flag n
-given-is_number zero n h = absurd (h refl)
-given-is_number (suc flag) n h = refl
-
-pub given_is_float : (flag : ℕ) (x : Float) → (flag ≡ 0 → ⊥) → float.Given x ≡ given_float flag x
-given_is_float zero x h = absurd (h refl)
-given_is_float (suc flag) x h = refl
+pub given-is : {A : Type 0} (flag : ℕ) (a : A) → (flag ≡ 0 → ⊥) → Some a ≡ given flag a
+given-is zero a h = absurd (h refl)
+given-is (suc flag) a h = refl
 
 -- ---- readable lists have their lengths
 pub lengths_of : (numbers : List ℕ) (floats : List Float) → readable numbers floats ≡ true → (length numbers ≡ 8) × (length floats ≡ 17)
@@ -123,7 +112,7 @@ lengths_of numbers floats h =
     (eqb-true (length numbers) 8 l.0, eqb-true (length floats) 17 l.1)
 
 -- ---- what the call tells, by its ways
-module _ (xmin xmax : List Float) (ndiv : GivenU64) (tolerance border : GivenF64) (numbers : List ℕ) (floats : List Float) where
+module _ (xmin xmax : List Float) (ndiv : Option ℕ) (tolerance border : Option Float) (numbers : List ℕ) (floats : List Float) where
   pub told_13 : sheet_lengths numbers floats ≡ false → ToldSheet (new_in_c xmin xmax ndiv tolerance border numbers floats) 13 numbers numbers floats floats
   unfolding new_in_c
   told_13 h = rw h (record { returned = refl; numbers-written = refl; floats-written = refl })

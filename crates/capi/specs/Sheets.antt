@@ -1,16 +1,12 @@
 -- A sheet as the C interface has it, in a list of 8 numbers and a list of 17 floats: what `gemlab_grid_search_new` writes, and how a sheet that is handed in is read.
 -- Assumes nothing.
-use Rattle.std.specs.Prelude.{ℕ, zero, suc, ◌+◌, Bool, cond, ◌&&◌, ◌||◌, ◌≡◌, List, [], ◌∷◌, eqb, length, get_or, Float}
+use Rattle.std.specs.Prelude.{ℕ, zero, suc, ◌+◌, Bool, cond, ◌&&◌, ◌||◌, ◌≡◌, List, [], ◌∷◌, eqb, length, get_or, Float, Option, Some, None}
 use Rattle.std.specs.Float.{nan}
 use Rattle.basics.specs.Refusals.{Answer, refused, through}
 use Rattle.floats.specs.Rounded.{zero_f}
 use Rattle.floats.specs.Tests.{same_bits}
 use Rattle.geometry.specs.declared.Position.{Position}
 use Rattle.geometry.specs.Position.{dimension}
-use Rattle.grid_search.specs.declared.GivenU64.{GivenU64}
-use Rattle.grid_search.specs.declared.GivenU64.TheVariants as number
-use Rattle.grid_search.specs.declared.GivenF64.{GivenF64}
-use Rattle.grid_search.specs.declared.GivenF64.TheVariants as float
 use Rattle.grid_search.specs.declared.GridSearch.{GridSearch}
 use Rattle.grid_search.specs.Sheet.{new_sheet}
 use Rattle.capi.specs.Answers.{number as returns, written}
@@ -18,30 +14,24 @@ use Rattle.capi.specs.Answers.{number as returns, written}
 -- ---- a setting: a flag that says whether it is given, and its value
 
 -- any flag but 0 means given
-abbrev pub given_number : ℕ → ℕ → GivenU64
-given_number zero n = number.LeftOut
-given_number (suc flag) n = number.Given n
+abbrev pub given : {A : Type 0} → ℕ → A → Option A
+given zero a = None
+given (suc flag) a = Some a
 
-abbrev pub given_float : ℕ → Float → GivenF64
-given_float zero x = float.LeftOut
-given_float (suc flag) x = float.Given x
+abbrev pub given_number : ℕ → ℕ → Option ℕ
+given_number = given
+
+abbrev pub given_float : ℕ → Float → Option Float
+given_float = given
 
 -- written back: 1 and the value, or 0 and 0
-abbrev pub number_flag : GivenU64 → ℕ
-number_flag number.LeftOut = 0
-number_flag (number.Given n) = 1
+abbrev pub flag_of : {A : Type 0} → Option A → ℕ
+flag_of None = 0
+flag_of (Some a) = 1
 
-abbrev pub number_entry : GivenU64 → ℕ
-number_entry number.LeftOut = 0
-number_entry (number.Given n) = n
-
-abbrev pub float_flag : GivenF64 → ℕ
-float_flag float.LeftOut = 0
-float_flag (float.Given x) = 1
-
-abbrev pub float_entry : GivenF64 → Float
-float_entry float.LeftOut = zero_f
-float_entry (float.Given x) = x
+abbrev pub entry_of : {A : Type 0} → A → Option A → A
+entry_of empty None = empty
+entry_of empty (Some a) = a
 
 -- ---- what is written
 
@@ -49,10 +39,10 @@ float_entry (float.Given x) = x
 abbrev pub numbers_of : GridSearch → List ℕ
 numbers_of s =
     s.ndim
-    ∷ number_flag s.number
-    ∷ number_entry s.number
-    ∷ float_flag s.tolerance
-    ∷ float_flag s.border_tol
+    ∷ flag_of s.number
+    ∷ entry_of 0 s.number
+    ∷ flag_of s.tolerance
+    ∷ flag_of s.border_tol
     ∷ s.ndiv.x
     ∷ s.ndiv.y
     ∷ s.ndiv.z
@@ -63,8 +53,8 @@ abbrev pub floats_of : GridSearch → List Float
 floats_of s =
     s.low.x ∷ s.low.y ∷ s.low.z
     ∷ s.high.x ∷ s.high.y ∷ s.high.z
-    ∷ float_entry s.tolerance
-    ∷ float_entry s.border_tol
+    ∷ entry_of zero_f s.tolerance
+    ∷ entry_of zero_f s.border_tol
     ∷ s.xmin.x ∷ s.xmin.y ∷ s.xmin.z
     ∷ s.xmax.x ∷ s.xmax.y ∷ s.xmax.z
     ∷ s.side_length
@@ -77,7 +67,7 @@ floats_of s =
 abbrev pub sheet_lengths : List ℕ → List Float → Bool
 sheet_lengths numbers floats = eqb (length numbers) 8 && eqb (length floats) 17
 
-unfoldable pub new_in_c : List Float → List Float → GivenU64 → GivenF64 → GivenF64 → List ℕ → List Float → Answer GridSearch
+unfoldable pub new_in_c : List Float → List Float → Option ℕ → Option Float → Option Float → List ℕ → List Float → Answer GridSearch
 unfolding new_sheet
 new_in_c xmin xmax ndiv tolerance border numbers floats = cond (sheet_lengths numbers floats) (new_sheet xmin xmax ndiv tolerance border) (refused 13)
 
@@ -89,12 +79,15 @@ pub record ToldSheet (x : Answer GridSearch) (r : ℕ) (numbers numbers' : List 
 
 -- ---- how a sheet is read
 
--- a flag is 0 or 1, and with 0 the entry is 0
+-- a flag is 0 or 1, and with 0 the entry is 0, which is `empty`
+abbrev pub setting_read : ℕ → Bool → Bool
+setting_read flag empty = eqb flag 1 || (eqb flag 0 && empty)
+
 abbrev pub number_read : ℕ → ℕ → Bool
-number_read flag n = eqb flag 1 || (eqb flag 0 && eqb n 0)
+number_read flag n = setting_read flag (eqb n 0)
 
 abbrev pub float_read : ℕ → Float → Bool
-float_read flag x = eqb flag 1 || (eqb flag 0 && same_bits x zero_f)
+float_read flag x = setting_read flag (same_bits x zero_f)
 
 -- the lists can be those of a sheet: their lengths, the dimension, and the settings with their flags
 unfoldable pub readable : List ℕ → List Float → Bool

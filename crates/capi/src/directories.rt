@@ -14,12 +14,9 @@ ghost use Rattle.capi.specs.Directories.{ToldBuilt, ToldLooked, ToldFiled, ToldT
 
 use crate::lists::filter_of;
 use crate::sheet::sheet_of;
-use directory::{Built, LookedUp};
-use directory_insert::Inserted;
-use directory_strike::Struck;
-use listing::Listed;
-use search::Found;
-use table::ItemId;
+use crate::told::{number_of, tell, tell_count};
+use directory::{Directory, DirectoryMut};
+use table::{ItemId, Library, LibraryMut};
 
 // Writes the directory of a library's rows, zeros past it to the end of the lists, and its used count, which is not read. Returns
 // 0, or the first of 24, 13 and 12 that applies, and then writes nothing.
@@ -43,25 +40,23 @@ pub fn gemlab_directory_build(
         result (directory dir_keys.new dir_firsts.new dir_counts.new dir_used.new) }
 {
     let sheet = sheet_of(numbers, floats);
-    let answer = directory::build(
-        sheet,
+    let library = Library {
         keys,
         ids,
         xs,
         ys,
         zs,
-        used as usize,
-        dir_keys,
-        dir_firsts,
-        dir_counts,
-    );
-    match answer {
-        Built::Places(n) => {
-            *dir_used = n as u64;
-            0
-        }
-        Built::Refused(n) => n,
-    }
+        used: used as usize,
+    };
+    let mut directory = DirectoryMut {
+        keys: dir_keys,
+        firsts: dir_firsts,
+        counts: dir_counts,
+        used: *dir_used as usize,
+    };
+    let answer = directory::build(sheet, library, &mut directory);
+    *dir_used = directory.used as u64;
+    number_of(answer)
 }
 
 // Looks a key up in a directory: found is 1 and place the key's place, or found is 0 and place stays; reads is how many places
@@ -90,33 +85,27 @@ pub fn gemlab_directory_look_up(
         result found.old found.new place.old place.new reads.old reads.new }
 {
     let sheet = sheet_of(numbers, floats);
-    let answer = directory::look_up(
-        sheet,
+    let library = Library {
         keys,
         ids,
         xs,
         ys,
         zs,
-        used as usize,
-        dir_keys,
-        dir_firsts,
-        dir_counts,
-        dir_used as usize,
-        key,
-    );
-    match answer {
-        LookedUp::At(p, n) => {
-            *found = 1;
-            *place = p as u64;
-            *reads = n as u64;
+        used: used as usize,
+    };
+    let directory = Directory {
+        keys: dir_keys,
+        firsts: dir_firsts,
+        counts: dir_counts,
+        used: dir_used as usize,
+    };
+    match directory::look_up(sheet, library, directory, key) {
+        Ok(look) => {
+            tell(look.place.map(|at| at as u64), found, place);
+            *reads = look.reads as u64;
             0
         }
-        LookedUp::Nowhere(n) => {
-            *found = 0;
-            *reads = n as u64;
-            0
-        }
-        LookedUp::Refused(n) => n,
+        Err(refusal) => u64::from(refusal),
     }
 }
 
@@ -147,31 +136,24 @@ pub fn gemlab_directory_insert(
         (directory dir_keys.new dir_firsts.new dir_counts.new dir_used.new) }
 {
     let sheet = sheet_of(numbers, floats);
-    let count = *used as usize;
-    let places = *dir_used as usize;
-    let answer = directory_insert::insert(
-        sheet,
+    let mut library = LibraryMut {
         keys,
         ids,
         xs,
         ys,
         zs,
-        count,
-        dir_keys,
-        dir_firsts,
-        dir_counts,
-        places,
-        ItemId(id),
-        x,
-    );
-    match answer {
-        Inserted::Stored(n, p) => {
-            *used = n as u64;
-            *dir_used = p as u64;
-            0
-        }
-        Inserted::Refused(n) => n,
-    }
+        used: *used as usize,
+    };
+    let mut directory = DirectoryMut {
+        keys: dir_keys,
+        firsts: dir_firsts,
+        counts: dir_counts,
+        used: *dir_used as usize,
+    };
+    let answer = directory_insert::insert(sheet, &mut library, &mut directory, ItemId(id), x);
+    *used = library.used as u64;
+    *dir_used = directory.used as u64;
+    number_of(answer)
 }
 
 // Takes every row of an id out of a library as `gemlab_grid_search_strike` does, brings the directory up to date, and writes both
@@ -202,32 +184,24 @@ pub fn gemlab_directory_strike(
         removed.old removed.new }
 {
     let sheet = sheet_of(numbers, floats);
-    let count = *used as usize;
-    let places = *dir_used as usize;
-    let answer = directory_strike::strike(
-        sheet,
+    let mut library = LibraryMut {
         keys,
         ids,
         xs,
         ys,
         zs,
-        count,
-        dir_keys,
-        dir_firsts,
-        dir_counts,
-        places,
-        ItemId(id),
-    );
-    match answer {
-        Struck::Removed(n, p) => {
-            let left = count - n;
-            *used = left as u64;
-            *dir_used = p as u64;
-            *removed = n as u64;
-            0
-        }
-        Struck::Refused(n) => n,
-    }
+        used: *used as usize,
+    };
+    let mut directory = DirectoryMut {
+        keys: dir_keys,
+        firsts: dir_firsts,
+        counts: dir_counts,
+        used: *dir_used as usize,
+    };
+    let answer = directory_strike::strike(sheet, &mut library, &mut directory, ItemId(id));
+    *used = library.used as u64;
+    *dir_used = directory.used as u64;
+    tell_count(answer, removed)
 }
 
 // Tells whether a mark is near a position as `gemlab_grid_search_search` does, through the directory. Returns 0, or the first of
@@ -257,31 +231,26 @@ pub fn gemlab_directory_search(
         result found.old found.new id.old id.new }
 {
     let sheet = sheet_of(numbers, floats);
-    let answer = directory_search::search(
-        sheet,
+    let library = Library {
         keys,
         ids,
         xs,
         ys,
         zs,
-        used as usize,
-        dir_keys,
-        dir_firsts,
-        dir_counts,
-        dir_used as usize,
-        x,
-    );
-    match answer {
-        Found::Id(i) => {
-            *found = 1;
-            *id = i.0;
+        used: used as usize,
+    };
+    let directory = Directory {
+        keys: dir_keys,
+        firsts: dir_firsts,
+        counts: dir_counts,
+        used: dir_used as usize,
+    };
+    match directory_search::search(sheet, library, directory, x) {
+        Ok(mark) => {
+            tell(mark.map(|mark| mark.0), found, id);
             0
         }
-        Found::Nothing => {
-            *found = 0;
-            0
-        }
-        Found::Refused(n) => n,
+        Err(refusal) => u64::from(refusal),
     }
 }
 
@@ -320,30 +289,23 @@ pub fn gemlab_directory_list(
         result list.new count.old count.new }
 {
     let sheet = sheet_of(numbers, floats);
-    let answer = directory_list::search_on_place(
-        sheet,
+    let library = Library {
         keys,
         ids,
         xs,
         ys,
         zs,
-        used as usize,
-        dir_keys,
-        dir_firsts,
-        dir_counts,
-        dir_used as usize,
-        place,
-        a,
-        b,
-        number,
-        filter_of(filter, axis, low, high),
-        list,
+        used: used as usize,
+    };
+    let directory = Directory {
+        keys: dir_keys,
+        firsts: dir_firsts,
+        counts: dir_counts,
+        used: dir_used as usize,
+    };
+    let filter = filter_of(filter, axis, low, high);
+    let answer = directory_list::search_on_place(
+        sheet, library, directory, place, a, b, number, filter, list,
     );
-    match answer {
-        Listed::Count(n) => {
-            *count = n as u64;
-            0
-        }
-        Listed::Refused(n) => n,
-    }
+    tell_count(answer, count)
 }

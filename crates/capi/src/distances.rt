@@ -2,18 +2,18 @@
 ghost use Rattle.geometry.specs.Distances.{measured, point_point_answer, point_line_answer, point_circle_answer, point_cylinder_answer};
 ghost use Rattle.capi.specs.Answers.{Told};
 
-use geometry::Measured;
+use basics::Refusal;
 
 // Writes a distance and gives 0, or gives the refusal's number and writes nothing.
-fn told(answer: Measured, distance: &mut f64) -> u64
+fn told(answer: Result<f64, Refusal>, distance: &mut f64) -> u64
     ensures { Told (measured answer) result distance.old distance.new }
 {
     match answer {
-        Measured::Distance(d) => {
+        Ok(d) => {
             *distance = d;
             0
         }
-        Measured::Refused(n) => n,
+        Err(refusal) => u64::from(refusal),
     }
 }
 
@@ -33,6 +33,7 @@ pub fn gemlab_point_line_distance(a: &[f64], b: &[f64], c: &[f64], distance: &mu
 
 // Writes the signed distance of p to a circle, negative inside. Returns 0, or the refusal 1, 16, 2 or 3, and then writes
 // nothing.
+// Kept: a function of its own for each of C's names, in the order of its parameters.
 pub fn gemlab_point_circle_distance(
     center: &[f64],
     radius: f64,

@@ -7,15 +7,15 @@ ghost use Rattle.capi.specs.Indexes.{read_index, index_of, ToldCell};
 
 use crate::cells::have_lengths;
 use crate::sheet::position_at;
-use cell_search::FoundCell;
+use crate::told::tell;
 use geometry::Position;
 use grid::Divisions;
 use grid_cells::GridCells;
 
 // The index in two lists of the right lengths.
 fn read_index(numbers: &[u64], floats: &[f64]) -> GridCells
-    requires fact_1 { length numbers.now ≡ 6 }
-    requires fact_2 { length floats.now ≡ 7 }
+    requires numbers_length { length numbers.now ≡ 6 }
+    requires floats_length { length floats.now ≡ 7 }
     ensures { result ≡ read_index numbers.now floats.now }
 {
     let ndiv = Divisions {
@@ -61,13 +61,11 @@ fn no_index(ndim: usize) -> GridCells
 fn dimension_of(numbers: &[u64]) -> usize
     ensures { result ≡ get_or numbers.now 0 0 }
 {
-    if numbers.len() == 0 {
-        return 0;
-    }
-    numbers[0] as usize
+    numbers.first().map_or(0, |ndim| *ndim as usize)
 }
 
 // The index in two lists that were handed in.
+#[tactic(auto, unfolding(crate::specs::Indexes::index_of))]
 fn index_of(numbers: &[u64], floats: &[f64]) -> GridCells
     ensures { result ≡ index_of numbers.now floats.now }
 {
@@ -97,17 +95,11 @@ pub fn gemlab_grid_cells_search(
         result zeta.new found.old found.new cell.old cell.new }
 {
     let grid = index_of(numbers, floats);
-    let answer = mesh_view::search(grid, coords, corners, keys, cells, large, x, zeta);
-    match answer {
-        FoundCell::Cell(c) => {
-            *found = 1;
-            *cell = c.0;
+    match mesh_view::search(grid, coords, corners, keys, cells, large, x, zeta) {
+        Ok(id) => {
+            tell(id.map(|id| id.0), found, cell);
             0
         }
-        FoundCell::Nothing => {
-            *found = 0;
-            0
-        }
-        FoundCell::Refused(n) => n,
+        Err(refusal) => u64::from(refusal),
     }
 }

@@ -11,6 +11,7 @@ mod library;
 mod lists;
 mod sheet;
 mod survey;
+mod told;
 
 // for Rattle programs, and for `capi_c`
 pub use cells::gemlab_grid_cells_new;

@@ -8,10 +8,8 @@ ghost use Rattle.capi.specs.Sheets.{sheet_of};
 ghost use Rattle.capi.specs.Libraries.{ToldTurn, ToldStruck, ToldWalk, ToldFound};
 
 use crate::sheet::sheet_of;
-use rows::{Inserted, Walked};
-use search::Found;
-use strike::Struck;
-use table::ItemId;
+use crate::told::{number_of, tell, tell_count};
+use table::{ItemId, Library, LibraryMut};
 
 // Puts a mark into its own container and those of its halo corners, and writes the new count. Returns 0, or the first of 24,
 // 13, 2, 3, 11, 17 and 12 that applies, and then writes nothing.
@@ -32,15 +30,17 @@ pub fn gemlab_grid_search_insert(
         result (library keys.new ids.new xs.new ys.new zs.new used.new) }
 {
     let sheet = sheet_of(numbers, floats);
-    let count = *used as usize;
-    let answer = rows::insert(sheet, keys, ids, xs, ys, zs, count, ItemId(id), x);
-    match answer {
-        Inserted::Stored(n) => {
-            *used = n as u64;
-            0
-        }
-        Inserted::Refused(n) => n,
-    }
+    let mut library = LibraryMut {
+        keys,
+        ids,
+        xs,
+        ys,
+        zs,
+        used: *used as usize,
+    };
+    let answer = rows::insert(sheet, &mut library, ItemId(id), x);
+    *used = library.used as u64;
+    number_of(answer)
 }
 
 // Takes every row of an id out of the library, and writes the new count and how many rows went. Returns 0, or the first of 24,
@@ -63,17 +63,17 @@ pub fn gemlab_grid_search_strike(
         removed.old removed.new }
 {
     let sheet = sheet_of(numbers, floats);
-    let count = *used as usize;
-    let answer = strike::strike(sheet, keys, ids, xs, ys, zs, count, ItemId(id));
-    match answer {
-        Struck::Removed(n) => {
-            let left = count - n;
-            *used = left as u64;
-            *removed = n as u64;
-            0
-        }
-        Struck::Refused(n) => n,
-    }
+    let mut library = LibraryMut {
+        keys,
+        ids,
+        xs,
+        ys,
+        zs,
+        used: *used as usize,
+    };
+    let answer = strike::strike(sheet, &mut library, ItemId(id));
+    *used = library.used as u64;
+    tell_count(answer, removed)
 }
 
 // Checks the rows of a library, each once up to the first bad one: broken is 1 and row the lowest row that breaks 13 by itself or
@@ -97,20 +97,21 @@ pub fn gemlab_grid_search_check(
         result broken.old broken.new row.old row.new visited.old visited.new }
 {
     let sheet = sheet_of(numbers, floats);
-    let answer = rows::check_library(sheet, keys, ids, xs, ys, zs, used as usize);
-    match answer {
-        Walked::Bad(i, n) => {
-            *broken = 1;
-            *row = i as u64;
-            *visited = n as u64;
+    let library = Library {
+        keys,
+        ids,
+        xs,
+        ys,
+        zs,
+        used: used as usize,
+    };
+    match rows::check_library(sheet, library) {
+        Ok(walk) => {
+            tell(walk.bad.map(|bad| bad as u64), broken, row);
+            *visited = walk.visited as u64;
             0
         }
-        Walked::Sound(n) => {
-            *broken = 0;
-            *visited = n as u64;
-            0
-        }
-        Walked::Refused(n) => n,
+        Err(refusal) => u64::from(refusal),
     }
 }
 
@@ -134,17 +135,19 @@ pub fn gemlab_grid_search_search(
         result found.old found.new id.old id.new }
 {
     let sheet = sheet_of(numbers, floats);
-    let answer = search::search(sheet, keys, ids, xs, ys, zs, used as usize, x);
-    match answer {
-        Found::Id(i) => {
-            *found = 1;
-            *id = i.0;
+    let library = Library {
+        keys,
+        ids,
+        xs,
+        ys,
+        zs,
+        used: used as usize,
+    };
+    match search::search(sheet, library, x) {
+        Ok(mark) => {
+            tell(mark.map(|mark| mark.0), found, id);
             0
         }
-        Found::Nothing => {
-            *found = 0;
-            0
-        }
-        Found::Refused(n) => n,
+        Err(refusal) => u64::from(refusal),
     }
 }

@@ -7,22 +7,23 @@ ghost use Rattle.capi.specs.Sheets.{sheet_of};
 ghost use Rattle.capi.specs.Lists.{filter_of, ToldList};
 
 use crate::sheet::sheet_of;
-use listing::{Filter, Listed};
+use crate::told::tell_count;
+use listing::Filter;
+use table::Library;
 
 // The filter of a number: 0 for everything, 1 for a range. Any other is a range on an axis that no dimension has.
+#[tactic(auto, unfolding(crate::specs::Lists::filter_of))]
 pub(crate) fn filter_of(filter: u64, axis: u64, low: f64, high: f64) -> Filter
     ensures { result ≡ filter_of filter axis low high }
 {
-    if filter == 0 {
-        return Filter::Everything;
-    }
-    if filter == 1 {
-        return Filter::Range { axis, low, high };
-    }
-    Filter::Range {
-        axis: 3,
-        low: 0.0,
-        high: 0.0,
+    match filter {
+        0 => Filter::Everything,
+        1 => Filter::Range { axis, low, high },
+        _ => Filter::Range {
+            axis: 3,
+            low: 0.0,
+            high: 0.0,
+        },
     }
 }
 
@@ -54,26 +55,15 @@ pub fn gemlab_grid_search_list(
         result list.new count.old count.new }
 {
     let sheet = sheet_of(numbers, floats);
-    let answer = listing::search_on_place(
-        sheet,
+    let library = Library {
         keys,
         ids,
         xs,
         ys,
         zs,
-        used as usize,
-        place,
-        a,
-        b,
-        number,
-        filter_of(filter, axis, low, high),
-        list,
-    );
-    match answer {
-        Listed::Count(n) => {
-            *count = n as u64;
-            0
-        }
-        Listed::Refused(n) => n,
-    }
+        used: used as usize,
+    };
+    let filter = filter_of(filter, axis, low, high);
+    let answer = listing::search_on_place(sheet, library, place, a, b, number, filter, list);
+    tell_count(answer, count)
 }

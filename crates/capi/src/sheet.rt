@@ -1,11 +1,11 @@
 // The sheet, in a list of 8 numbers and a list of 17 floats.
 ghost use Rattle.std.specs.Prelude.{◌+◌, ◌<◌, ◌≡◌, [], length};
-ghost use Rattle.capi.specs.Sheets.{given_number, given_float, number_flag, number_entry, float_flag, float_entry, numbers_of, floats_of};
-ghost use Rattle.capi.specs.Sheets.{new_in_c, ToldSheet, number_read, float_read, readable as readable_of, position_at, read_sheet, sheet_of};
+ghost use Rattle.capi.specs.Sheets.{given as given_in, given_number, given_float, flag_of as flag_in, entry_of as entry_in, numbers_of as numbers_in, floats_of as floats_in};
+ghost use Rattle.capi.specs.Sheets.{new_in_c, ToldSheet, setting_read, readable as readable_of, position_at, read_sheet, sheet_of};
 
-use geometry::Position;
+use geometry::{Dimension, Position};
 use grid::Divisions;
-use grid_search::{GivenF64, GivenU64, GridSearch, Made};
+use grid_search::GridSearch;
 
 // How many entries a sheet's lists have.
 const NUMBERS: usize = 8;
@@ -13,101 +13,65 @@ const NUMBERS: usize = 8;
 const FLOATS: usize = 17;
 
 // A setting from its flag and its value: any flag but 0 means given.
-pub(crate) fn given_number(flag: u64, value: u64) -> GivenU64
-    ensures { result ≡ given_number flag value }
+pub(crate) fn given<T: Drop>(flag: u64, value: T) -> Option<T>
+    ensures { result ≡ given_in flag value }
 {
-    if flag == 0 {
-        return GivenU64::LeftOut;
-    }
-    GivenU64::Given(value)
+    if flag == 0 { None } else { Some(value) }
 }
 
-pub(crate) fn given_float(flag: u64, value: f64) -> GivenF64
-    ensures { result ≡ given_float flag value }
+// A setting's flag, 0 or 1.
+fn flag_of<T: Copy>(setting: Option<T>) -> u64
+    ensures { result ≡ flag_in setting }
 {
-    if flag == 0 {
-        return GivenF64::LeftOut;
-    }
-    GivenF64::Given(value)
+    setting.is_some() as u64
 }
 
-// A setting's flag, 0 or 1, and its entry, which is 0 where the setting is left out.
-fn number_flag(setting: GivenU64) -> u64
-    ensures { result ≡ number_flag setting }
+// A setting's entry, which is empty where the setting is left out.
+fn entry_of<T: Drop>(empty: T, setting: Option<T>) -> T
+    ensures { result ≡ entry_in empty setting }
 {
-    match setting {
-        GivenU64::Given(_) => 1,
-        GivenU64::LeftOut => 0,
-    }
+    setting.unwrap_or(empty)
 }
 
-fn number_entry(setting: GivenU64) -> u64
-    ensures { result ≡ number_entry setting }
+// A sheet's list of numbers.
+fn numbers_of(s: GridSearch) -> [u64; NUMBERS]
+    ensures { result ≡ numbers_in s }
 {
-    match setting {
-        GivenU64::Given(v) => v,
-        GivenU64::LeftOut => 0,
-    }
+    [
+        s.ndim as u64,
+        flag_of(s.number),
+        entry_of(0, s.number),
+        flag_of(s.tolerance),
+        flag_of(s.border_tol),
+        s.ndiv.x,
+        s.ndiv.y,
+        s.ndiv.z,
+    ]
 }
 
-fn float_flag(setting: GivenF64) -> u64
-    ensures { result ≡ float_flag setting }
+// A sheet's list of floats.
+fn floats_of(s: GridSearch) -> [f64; FLOATS]
+    ensures { result ≡ floats_in s }
 {
-    match setting {
-        GivenF64::Given(_) => 1,
-        GivenF64::LeftOut => 0,
-    }
-}
-
-fn float_entry(setting: GivenF64) -> f64
-    ensures { result ≡ float_entry setting }
-{
-    match setting {
-        GivenF64::Given(v) => v,
-        GivenF64::LeftOut => 0.0,
-    }
-}
-
-fn write_numbers(s: GridSearch, numbers: &mut [u64])
-    requires { length numbers.old ≡ 8 }
-    ensures { numbers.new ≡ numbers_of s }
-{
-    let number = s.number;
-    let tolerance = s.tolerance;
-    let border_tol = s.border_tol;
-    numbers[0] = s.ndim as u64;
-    numbers[1] = number_flag(number);
-    numbers[2] = number_entry(number);
-    numbers[3] = float_flag(tolerance);
-    numbers[4] = float_flag(border_tol);
-    numbers[5] = s.ndiv.x;
-    numbers[6] = s.ndiv.y;
-    numbers[7] = s.ndiv.z;
-}
-
-fn write_floats(s: GridSearch, floats: &mut [f64])
-    requires { length floats.old ≡ 17 }
-    ensures { floats.new ≡ floats_of s }
-{
-    let tolerance = s.tolerance;
-    let border_tol = s.border_tol;
-    floats[0] = s.low.x;
-    floats[1] = s.low.y;
-    floats[2] = s.low.z;
-    floats[3] = s.high.x;
-    floats[4] = s.high.y;
-    floats[5] = s.high.z;
-    floats[6] = float_entry(tolerance);
-    floats[7] = float_entry(border_tol);
-    floats[8] = s.xmin.x;
-    floats[9] = s.xmin.y;
-    floats[10] = s.xmin.z;
-    floats[11] = s.xmax.x;
-    floats[12] = s.xmax.y;
-    floats[13] = s.xmax.z;
-    floats[14] = s.side_length;
-    floats[15] = s.tol_dist;
-    floats[16] = s.radius;
+    [
+        s.low.x,
+        s.low.y,
+        s.low.z,
+        s.high.x,
+        s.high.y,
+        s.high.z,
+        entry_of(0.0, s.tolerance),
+        entry_of(0.0, s.border_tol),
+        s.xmin.x,
+        s.xmin.y,
+        s.xmin.z,
+        s.xmax.x,
+        s.xmax.y,
+        s.xmax.z,
+        s.side_length,
+        s.tol_dist,
+        s.radius,
+    ]
 }
 
 // Writes the sheet that the corners and settings give into two lists. Returns 0, or 13 for lists of another length, or the
@@ -135,31 +99,25 @@ pub fn gemlab_grid_search_new(
     let made = GridSearch::new(
         xmin,
         xmax,
-        given_number(ndiv_given, ndiv),
-        given_float(tolerance_given, tolerance),
-        given_float(border_tol_given, border_tol),
+        given(ndiv_given, ndiv),
+        given(tolerance_given, tolerance),
+        given(border_tol_given, border_tol),
     );
     match made {
-        Made::Sheet(s) => {
-            write_numbers(s, numbers);
-            write_floats(s, floats);
+        Ok(sheet) => {
+            numbers.copy_from_slice(&numbers_of(sheet));
+            floats.copy_from_slice(&floats_of(sheet));
             0
         }
-        Made::Refused(n) => n,
+        Err(refusal) => u64::from(refusal),
     }
 }
 
-// Whether a setting's flag is 0 or 1, and with 0 its entry 0.
-fn number_reads(flag: u64, value: u64) -> bool
-    ensures { result ≡ number_read flag value }
+// Whether a setting's flag is 0 or 1, and with 0 its entry is empty.
+fn is_setting(flag: u64, empty: bool) -> bool
+    ensures { result ≡ setting_read flag empty }
 {
-    (flag == 1) | ((flag == 0) & (value == 0))
-}
-
-fn float_reads(flag: u64, value: f64) -> bool
-    ensures { result ≡ float_read flag value }
-{
-    (flag == 1) | ((flag == 0) & floats::same_bits(value, 0.0))
+    (flag == 1) | ((flag == 0) & empty)
 }
 
 // Whether two lists can be those of a sheet: their lengths, the dimension, and the settings with their flags.
@@ -172,9 +130,10 @@ fn readable(numbers: &[u64], floats: &[f64]) -> bool
     if floats.len() != FLOATS {
         return false;
     }
-    geometry::is_dimension(numbers[0] as usize)
-        & (number_reads(numbers[1], numbers[2])
-            & (float_reads(numbers[3], floats[6]) & float_reads(numbers[4], floats[7])))
+    Dimension::try_from(numbers[0] as usize).is_ok()
+        & (is_setting(numbers[1], numbers[2] == 0)
+            & (is_setting(numbers[3], floats::same_bits(floats[6], 0.0))
+                & is_setting(numbers[4], floats::same_bits(floats[7], 0.0))))
 }
 
 // The position whose coordinates start at entry i.
@@ -191,15 +150,15 @@ pub(crate) fn position_at(floats: &[f64], i: usize) -> Position
 
 // The sheet that readable lists hold.
 fn read_sheet(numbers: &[u64], floats: &[f64]) -> GridSearch
-    requires fact_1 { length numbers.now ≡ 8 }
-    requires fact_2 { length floats.now ≡ 17 }
+    requires numbers_length { length numbers.now ≡ 8 }
+    requires floats_length { length floats.now ≡ 17 }
     ensures { result ≡ read_sheet numbers.now floats.now }
 {
     let low = position_at(floats, 0);
     let high = position_at(floats, 3);
-    let number = given_number(numbers[1], numbers[2]);
-    let tolerance = given_float(numbers[3], floats[6]);
-    let border_tol = given_float(numbers[4], floats[7]);
+    let number = given(numbers[1], numbers[2]);
+    let tolerance = given(numbers[3], floats[6]);
+    let border_tol = given(numbers[4], floats[7]);
     let ndiv = Divisions {
         x: numbers[5],
         y: numbers[6],
@@ -237,9 +196,9 @@ fn no_sheet() -> GridSearch
         ndim: 0,
         low: nowhere,
         high: nowhere,
-        number: GivenU64::LeftOut,
-        tolerance: GivenF64::LeftOut,
-        border_tol: GivenF64::LeftOut,
+        number: None,
+        tolerance: None,
+        border_tol: None,
         ndiv: Divisions { x: 0, y: 0, z: 0 },
         xmin: nowhere,
         xmax: nowhere,

@@ -5,8 +5,10 @@ ghost use Rattle.survey_export.specs.Export.{exporting};
 ghost use Rattle.capi.specs.Lists.{ToldList};
 ghost use Rattle.capi.specs.Surveys.{ToldImport};
 
-use survey_export::Exported;
-use survey_import::Imported;
+use crate::told::tell_count;
+use basics::Refusal;
+use mark_lists::{MarkLists, MarkListsMut};
+use survey_import::ImportError;
 
 // Writes the marks of a text and their count. Returns 0, or the first of 24, 13, 27 and 12 that applies, and then writes nothing
 // but, where it is 27, the first bad line, counted from 1.
@@ -22,17 +24,22 @@ pub fn gemlab_survey_import(
     ensures { ToldImport (importing (mark_list ids.old xs.old ys.old zs.old used.old) text.now)
         result (mark_list ids.new xs.new ys.new zs.new used.new) line.old line.new }
 {
-    let answer = survey_import::import(text, ids, xs, ys, zs);
+    let mut lists = MarkListsMut {
+        ids,
+        xs,
+        ys,
+        zs,
+        used: *used as usize,
+    };
+    let answer = survey_import::import(text, &mut lists);
+    *used = lists.used as u64;
     match answer {
-        Imported::Marks(n) => {
-            *used = n as u64;
-            0
+        Ok(_) => 0,
+        Err(ImportError::Malformed(bad)) => {
+            *line = bad as u64;
+            u64::from(Refusal::Malformed)
         }
-        Imported::Malformed(n) => {
-            *line = n as u64;
-            27
-        }
-        Imported::Refused(n) => n,
+        Err(ImportError::Refused(refusal)) => u64::from(refusal),
     }
 }
 
@@ -50,12 +57,12 @@ pub fn gemlab_survey_export(
     ensures { ToldList (exporting (mark_list ids.now xs.now ys.now zs.now used) text.old)
         result text.new length.old length.new }
 {
-    let answer = survey_export::export(ids, xs, ys, zs, used as usize, text);
-    match answer {
-        Exported::Length(n) => {
-            *length = n as u64;
-            0
-        }
-        Exported::Refused(n) => n,
-    }
+    let lists = MarkLists {
+        ids,
+        xs,
+        ys,
+        zs,
+        used: used as usize,
+    };
+    tell_count(survey_export::export(lists, text), length)
 }

@@ -8,8 +8,10 @@ ghost use Rattle.grid_search.specs.Sheet.{made, sheet_ok};
 ghost use Rattle.files.specs.Counts.{IsPrefixLen};
 ghost use Rattle.catalogue.specs.Printed.{GoodSheet, Judged, Printed};
 
-use grid_search::{GridSearch, Made};
+use basics::Refusal;
+use grid_search::GridSearch;
 use std::rt::Files;
+use table::{Library, LibraryMut};
 
 // What is printed of a good sheet and `marks.bin`, whose records have 32 bytes.
 fn put_marks(rt: &impl Files, sheet: GridSearch, text: &mut [u8; 70804]) -> usize
@@ -22,29 +24,40 @@ fn put_marks(rt: &impl Files, sheet: GridSearch, text: &mut [u8; 70804]) -> usiz
     let mut xs = [0.0f64; 1024];
     let mut ys = [0.0f64; 1024];
     let mut zs = [0.0f64; 1024];
-    let answer = files::insert_file(
-        rt,
-        b"marks.bin",
-        32,
-        sheet,
-        &mut keys,
-        &mut ids,
-        &mut xs,
-        &mut ys,
-        &mut zs,
-    );
-    outcome::put_outcome(sheet, &keys, &ids, &xs, &ys, &zs, answer, text)
+    let mut library = LibraryMut {
+        keys: &mut keys,
+        ids: &mut ids,
+        xs: &mut xs,
+        ys: &mut ys,
+        zs: &mut zs,
+        used: 0,
+    };
+    let answer = files::insert_file(rt, b"marks.bin", 32, sheet, &mut library);
+    let used = library.used;
+    let library = Library {
+        keys: &keys,
+        ids: &ids,
+        xs: &xs,
+        ys: &ys,
+        zs: &zs,
+        used,
+    };
+    outcome::put_outcome(sheet, library, answer, text)
 }
 
 // What is printed after `sheet.bin` gave this sheet. Where it is refused, `marks.bin` is not looked at.
-fn put_catalogue(rt: &impl Files, sheet: Made, text: &mut [u8; 70804]) -> usize
+fn put_catalogue(
+    rt: &impl Files,
+    sheet: Result<GridSearch, Refusal>,
+    text: &mut [u8; 70804],
+) -> usize
     requires { GoodSheet sheet }
     ensures prefix_len { IsPrefixLen result text.new }
     ensures judged { Judged (made sheet) (take result text.new) }
 {
     match sheet {
-        Made::Sheet(good) => put_marks(rt, good, text),
-        Made::Refused(number) => outcome::put_refused(number, text),
+        Ok(good) => put_marks(rt, good, text),
+        Err(reason) => outcome::put_refused(reason, text),
     }
 }
 

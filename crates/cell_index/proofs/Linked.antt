@@ -1,16 +1,17 @@
 -- A test of each entry, and of each with the next, in one walk: rows, and numbers of cells.
 -- Assumes nothing.
-use Prim.Native.Nat.{ℕ, suc, ◌+◌, ◌≤◌, ◌<◌}
+use Prim.Native.Nat.{ℕ, zero, suc, ◌+◌, ◌≤◌, ◌<◌}
 use native.Mathlib.Numerals.{add-one}
 use native.Mathlib.Omega.{arith}
-use mathlib.Core.Path.{◌≡◌, refl, sym, ap, ◌∙◌}
+use mathlib.Core.Path.{◌≡◌, refl, sym, ap, ap₂, ◌∙◌}
 use mathlib.Core.Bool.{Bool, true, false, ◌&&◌, and-true, and_assoc}
 use mathlib.Core.List.{List, [], ◌∷◌}
 use lib.Dec.{ltb}
 use lib.ListN.{length, get_or, take, drop, drop_of_length-le}
+use lib.Seq.{get_or-take, take-length}
 use Rattle.basics.specs.Lists.{all, tab}
 use Rattle.basics.proofs.Lists.{length-tab, drop-tab, tab-take}
-use Rattle.table.specs.Rows.{Slot, before, chain, slots_of, sorted}
+use Rattle.table.specs.Rows.{Slot, slotted, slot_at, before, chain, slots_of, sorted}
 use Rattle.sorting.specs.Ascent.{ascending}
 use Rattle.cell_index.specs.Index.{good_rows, good_numbers}
 
@@ -58,16 +59,26 @@ pub rows_linked : (count ncell : ℕ) (rows : List Slot) → good_rows count nce
 unfolding good_rows sorted chain
 rows_linked count ncell rows = linked_is (good_slot count ncell) before sorted refl (λ q. refl) (λ p q l. refl) rows
 
-pub no_rows : (count ncell : ℕ) (keys cells : List ℕ) (used : ℕ) → used ≡ 0 → true ≡ good_rows count ncell (slots_of keys cells used)
+pub no_rows : (count ncell : ℕ) (keys cells : List ℕ) → length keys ≡ 0 → true ≡ good_rows count ncell (slots_of keys cells (length keys))
 unfolding good_rows slots_of sorted all
-no_rows count ncell keys cells used e = rw e
+no_rows count ncell keys cells e = rw e
+
+tab_same : {A : Type 0} (n : ℕ) (f g : ℕ → A) → ((i : ℕ) → i < n → f i ≡ g i) → tab n f ≡ tab n g
+tab_same zero f g h = refl
+tab_same (suc n) f g h = ap₂ ◌∷◌ (h 0 (omega arith)) (tab_same n (λ i. f (suc i)) (λ i. g (suc i)) (λ i k. h (suc i) (omega arith)))
+
+-- the rows in use, as rows of lists that end with them
+pub rows-used : (keys cells : List ℕ) (n : ℕ) → slots_of (take n keys) (take n cells) n ≡ slots_of keys cells n
+unfolding slots_of
+rows-used keys cells n = tab_same n (slot_at (take n keys) (take n cells)) (slot_at keys cells) (λ i h. ap₂ slotted (get_or-take n keys i 0 h) (get_or-take n cells i 0 h))
 
 -- ---- numbers of cells
 
-pub numbers_linked : (ncell n : ℕ) (l : List ℕ) → n ≤ length l → good_numbers ncell (take n l) ≡ linked (λ (c : ℕ). ltb c ncell) ltb (tab n (λ i. get_or l i 0))
+pub numbers_linked : (ncell : ℕ) (l : List ℕ) → good_numbers ncell l ≡ linked (λ (c : ℕ). ltb c ncell) ltb (tab (length l) (λ i. get_or l i 0))
 unfolding good_numbers ascending
-numbers_linked ncell n l h = rw (tab-take n l 0 h) (linked_is (λ (c : ℕ). ltb c ncell) ltb ascending refl (λ c. refl) (λ c d l. refl) (take n l))
+numbers_linked ncell l = rw (tab-take (length l) l 0 (omega arith), take-length l) (linked_is (λ (c : ℕ). ltb c ncell) ltb ascending refl (λ c. refl) (λ c d l. refl) l)
 
-pub no_numbers : (ncell n : ℕ) (l : List ℕ) → n ≡ 0 → true ≡ good_numbers ncell (take n l)
+pub no_numbers : (ncell : ℕ) (l : List ℕ) → length l ≡ 0 → true ≡ good_numbers ncell l
 unfolding good_numbers ascending all
-no_numbers ncell n l e = rw e
+no_numbers ncell [] e = refl
+no_numbers ncell (c ∷ l) e = absurd (omega arith)

@@ -4,18 +4,18 @@ use Prim.Native.Nat.{ℕ, zero, suc, ◌≤◌, ◌<◌}
 use native.Mathlib.Omega.{arith}
 use mathlib.Core.Path.{◌≡◌, refl, sym, ap, ◌∙◌}
 use mathlib.Core.Bool.{Bool, true, false, ◌&&◌}
-use mathlib.Core.Option.{none}
+use mathlib.Core.Option.{none, some, some-ne-none}
 use mathlib.Core.List.{List, [], ◌∷◌}
 use lib.Dec.{ltb, leb, eqb}
 use lib.ListN.{length, get_or, take}
 use lib.Seq.{get_or-take, length-take-le}
 use lib.Ieee.{Float, le}
 use borrow.Author.Tests.{ltb-true, leb-true, eqb-true, not-false}
-use Rattle.basics.proofs.Bools.{and_both, and_left, and_right}
+use Rattle.basics.proofs.Bools.{by_test, and_both, and_left, and_right}
 use Rattle.basics.specs.Lists.{all, tab, zip_with}
 use Rattle.basics.proofs.Lists.{length-tab, get_or-tab, all_at}
-use Rattle.basics.specs.Refusals.{fault, code}
-use Rattle.basics.proofs.Refusals.{Numbered, Passed, unrefused, code-none}
+use Rattle.basics.specs.Refusals.{refuse, fault}
+use Rattle.basics.proofs.Refusals.{Passed, unrefused, fault_stop, fault-right}
 use Rattle.floats.specs.Rounded.{pow2, pow2⁻}
 use Rattle.geometry.specs.Position.{coords, dimension}
 use Rattle.grid.specs.Divisions.{counts, division}
@@ -25,8 +25,6 @@ use Rattle.table.specs.Rows.{slot_at, slots_of, sorted}
 use Rattle.sorting.specs.Ascent.{ascending}
 use Rattle.grid_cells.specs.declared.GridCells.{GridCells}
 use Rattle.grid_cells.specs.Build.{IndexLists, size_tests}
-use Rattle.grid_cells.proofs.Ways.{code_stop, code-past}
-use Rattle.grid_cells.proofs.Early.{sizes_numbered}
 use Rattle.cell_index.specs.Index.{cell_rows, large_cells, corner_limit, ordered, good_index, enough_entries, good_rows, good_numbers, sound_index, index_tests}
 use Rattle.cell_index.specs.Steps.{Usable}
 use Rattle.cell_index.proofs.Later.{later}
@@ -67,6 +65,10 @@ entries g l e =
 
 -- ---- what 13 leaves
 
+-- each entry is below n
+abbrev Below : ℕ → List ℕ → Type 0
+Below n cells = (i : ℕ) → i < length cells → get_or cells i 0 < n
+
 module _ (g : GridCells) (n : ℕ) (l : IndexLists) (e : sound_index g n l ≡ true) where
   abbrev count : ℕ
   count = containers (counts g.ndim g.ndiv)
@@ -93,54 +95,66 @@ module _ (g : GridCells) (n : ℕ) (l : IndexLists) (e : sound_index g n l ≡ t
   unfolding cell_rows
   sound-order = rows-good.1
 
-  pub cell_below : (i : ℕ) → i < g.used → get_or l.cells i 0 < n
+  pub cell_below : Below n (take g.used l.cells)
   unfolding cell_rows slots_of
   cell_below i h =
       let f = slot_at l.keys l.cells in
-      let slot : good_slot count n (f i) ≡ true = ap (good_slot count n) (sym (get_or-tab g.used f i (f 0) h)) ∙ all_at (good_slot count n) (tab g.used f) i (f 0) (rw length-tab h) rows-good.0 in
-      ltb-true (get_or l.cells i 0) n (and_right (ltb (get_or l.keys i 0) count) (ltb (get_or l.cells i 0) n) slot)
+      let k : i < g.used = omega (arith, h, length-take-le g.used l.cells sound-entries.in_cells) in
+      let slot : good_slot count n (f i) ≡ true = ap (good_slot count n) (sym (get_or-tab g.used f i (f 0) k)) ∙ all_at (good_slot count n) (tab g.used f) i (f 0) (rw length-tab k) rows-good.0 in
+      rw (get_or-take g.used l.cells i 0 k) (ltb-true (get_or l.cells i 0) n (and_right (ltb (get_or l.keys i 0) count) (ltb (get_or l.cells i 0) n) slot))
 
-  pub large-below : (i : ℕ) → i < g.large → get_or l.large i 0 < n
-  unfolding large_cells good_numbers
+  pub large-below : Below n (large_cells g l)
+  unfolding good_numbers
   large-below i h =
       let p : ℕ → Bool = λ (c : ℕ). ltb c n in
-      let good = and_left (all p (take g.large l.large)) (ascending (take g.large l.large)) parts.3 in
-      let long = length-take-le g.large l.large sound-entries.in_large in
-      ltb-true (get_or l.large i 0) n (ap p (sym (get_or-take g.large l.large i 0 h)) ∙ all_at p (take g.large l.large) i 0 (rw long h) good)
+      ltb-true (get_or (large_cells g l) i 0) n (all_at p (large_cells g l) i 0 h (and_left (all p (large_cells g l)) (ascending (large_cells g l)) parts.3))
 
--- ---- the tests as a number, one way out after the other
+-- ---- the tests, one way out after the other
+
+pub unbroken : (b : Bool) → none ≡ fault (refuse 19 b ∷ []) → b ≡ false
+unbroken b e = (unrefused (refuse 19 b ∷ []) (sym e)).0
 
 module _ (g : GridCells) (m : Mesh) (l : IndexLists) where
-  pub index-numbered : Numbered (index_tests g m l)
-  unfolding index_tests size_tests
-  index-numbered = (λ e. omega arith, (λ e. omega arith, (λ e. omega arith, (λ e. omega arith, tt))))
+  pub refuse_sizes : {n : ℕ} → some n ≡ fault (size_tests g.ndim m l) → some n ≡ fault (index_tests g m l)
+  unfolding index_tests
+  refuse_sizes {n} e = sym (fault_stop (size_tests g.ndim m l) (later g m l) n (sym e))
 
-  module _ {a : ℕ} (e : a ≡ code (fault (size_tests g.ndim m l))) where
-    pub refuse_sizes : (a ≡ 0 → ⊥) → a ≡ code (fault (index_tests g m l))
-    unfolding index_tests
-    refuse_sizes h = code_stop (size_tests g.ndim m l) (later g m l) e h
+  module _ (e : fault (size_tests g.ndim m l) ≡ none) where
+    pub refuse_19 : broken_mesh g.ndim m ≡ true → some 19 ≡ fault (index_tests g m l)
+    unfolding index_tests fault
+    refuse_19 b = sym (fault-right (size_tests g.ndim m l) (later g m l) e ∙ rw b)
 
-    module _ (z : a ≡ 0) where
-      pub refuse_19 : broken_mesh g.ndim m ≡ true → 19 ≡ code (fault (index_tests g m l))
-      unfolding index_tests fault code
-      refuse_19 b = code-past (size_tests g.ndim m l) (later g m l) (sizes_numbered g.ndim m l) e z (rw b)
+    pub refuse_mesh : {n : ℕ} → some n ≡ fault (refuse 19 (broken_mesh g.ndim m) ∷ []) → some n ≡ fault (index_tests g m l)
+    unfolding fault
+    refuse_mesh {n} f = by_test (broken_mesh g.ndim m) (λ b. (rw b at f) ∙ refuse_19 b) (λ b. absurd (some-ne-none n (rw b at f)))
 
-      module _ (b : broken_mesh g.ndim m ≡ false) where
-        pub refuse_13 : sound_index g (cell_count g.ndim m) l ≡ false → 13 ≡ code (fault (index_tests g m l))
-        unfolding index_tests fault code
-        refuse_13 s = code-past (size_tests g.ndim m l) (later g m l) (sizes_numbered g.ndim m l) e z (rw (b, s))
+    module _ (b : broken_mesh g.ndim m ≡ false) where
+      pub refuse_13 : sound_index g (cell_count g.ndim m) l ≡ false → some 13 ≡ fault (index_tests g m l)
+      unfolding index_tests fault
+      refuse_13 s = sym (fault-right (size_tests g.ndim m l) (later g m l) e ∙ rw (b, s))
 
-        pub refuse-none : sound_index g (cell_count g.ndim m) l ≡ true → 0 ≡ code (fault (index_tests g m l))
-        unfolding index_tests fault code
-        refuse-none s = code-past (size_tests g.ndim m l) (later g m l) (sizes_numbered g.ndim m l) e z (rw (b, s))
+      pub refuse-none : sound_index g (cell_count g.ndim m) l ≡ true → none ≡ fault (index_tests g m l)
+      unfolding index_tests fault
+      refuse-none s = sym (fault-right (size_tests g.ndim m l) (later g m l) e ∙ rw (b, s))
 
-  -- ---- what an accepted index gives
-  module _ {a : ℕ} (e : a ≡ code (fault (index_tests g m l))) (z : a ≡ 0) where
-    pub index_passed : fault (index_tests g m l) ≡ none
-    index_passed = code-none (index_tests g m l) index-numbered (sym z ∙ e)
+  -- ---- what a sound index of a whole mesh gives
+  pub usable_by : Whole g.ndim m → sound_index g (cell_count g.ndim m) l ≡ true → Usable g m l
+  usable_by w s =
+      let n = cell_count g.ndim m in
+      let enough = sound-entries g n l s in
+      record {
+        whole = w;
+        keyed = record { axes = w.axes; divisions = good-divisions g (sound-good g n l s) };
+        rows = record { in_keys = enough.in_keys; in_ids = enough.in_cells; order = sound-order g n l s };
+        room = enough.in_large;
+        cells = cell_below g n l s;
+        large = large-below g n l s;
+      }
 
+  -- ---- and so what an accepted index gives
+  module _ (e : fault (index_tests g m l) ≡ none) where
     passes : Passed (index_tests g m l)
-    passes = unrefused (index_tests g m l) index_passed
+    passes = unrefused (index_tests g m l) e
 
     sound : sound_index g (cell_count g.ndim m) l ≡ true
     unfolding index_tests size_tests
@@ -151,13 +165,4 @@ module _ (g : GridCells) (m : Mesh) (l : IndexLists) where
     mesh_whole = record { axes = not-false (dimension g.ndim) passes.0; whole = passes.1.1.0 }
 
     pub usable : Usable g m l
-    usable =
-        let n = cell_count g.ndim m in
-        let enough = sound-entries g n l sound in
-        record {
-          whole = mesh_whole;
-          keyed = record { axes = mesh_whole.axes; divisions = good-divisions g (sound-good g n l sound) };
-          rows = record { in_keys = enough.in_keys; in_ids = enough.in_cells; order = sound-order g n l sound };
-          cells = record { room = enough.in_cells; below = cell_below g n l sound };
-          large = record { room = enough.in_large; below = large-below g n l sound };
-        }
+    usable = usable_by mesh_whole sound

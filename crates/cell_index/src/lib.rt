@@ -2,19 +2,32 @@
 // judges first.
 #![tactic(auto)]
 
-ghost use Rattle.std.specs.Prelude.{◌≤◌, ◌≡◌, true, ◌&&◌, length, take};
+ghost use Rattle.std.specs.Prelude.{◌≡◌, true, ◌&&◌, IfOk, length};
 ghost use Rattle.std.specs.Float.Ieee.{le};
+ghost use Rattle.basics.specs.Answers.{fault_in};
 ghost use Rattle.basics.specs.Lists.{all};
-ghost use Rattle.basics.specs.Refusals.{fault, code};
+ghost use Rattle.basics.specs.Refusals.{fault};
 ghost use Rattle.floats.specs.Rounded.{pow2, pow2⁻};
 ghost use Rattle.geometry.specs.Position.{coords as axes, dimension};
-ghost use Rattle.mesh.specs.Mesh.{mesh_of};
+ghost use Rattle.mesh.specs.Mesh.{seen, cell_count};
 ghost use Rattle.table.specs.Rows.{slots_of};
-ghost use Rattle.grid_cells.specs.Build.{index_lists};
+ghost use Rattle.grid_cells.specs.Lent.{lent};
 ghost use Rattle.cell_index.specs.Index.{corner_limit, ordered, good_index, enough_entries, good_rows, good_numbers, sound_index, index_tests};
 
-use geometry::Position;
-use grid_cells::GridCells;
+use basics::Refusal;
+use geometry::{Dimension, Position};
+use grid_cells::{GridCells, IndexLists};
+use mesh::{Mesh, WholeMesh};
+
+// An index with its lists and the mesh that it was built for, of the index's dimension: none of 1, 24, 19 and 13 applies.
+#[derive(Clone, Copy)]
+pub struct SoundIndex<'a, 'b, 'c> {
+    pub grid: GridCells,
+    pub mesh: WholeMesh<'a, 'b>,
+    pub lists: IndexLists<'c>,
+    pub ghost axes: { mesh.mesh.ndim ≡ grid.ndim },
+    pub ghost sound: { sound_index grid (cell_count grid.ndim (seen mesh.mesh)) (lent lists) ≡ true },
+}
 
 // Whether a side lies within 2^-19 and 2^22.
 fn is_side(side_length: f64) -> bool
@@ -31,27 +44,28 @@ fn is_corner(x: f64) -> bool
 }
 
 // Whether every coordinate of a corner on the axes in use may be one.
-fn corner_ok(ndim: usize, p: Position) -> bool
-    requires { dimension ndim ≡ true }
-    ensures { result ≡ all corner_limit (axes ndim p) }
+#[tactic(auto, using(geometry::proofs::Axes::all_tests))]
+fn corner_ok(ndim: Dimension, p: Position) -> bool
+    ensures { result ≡ all corner_limit (axes ndim.n p) }
 {
     geometry::on_every_axis(ndim, is_corner(p.x), is_corner(p.y), is_corner(p.z))
 }
 
 // Whether the low corner is above the high one on no axis.
-fn are_ordered(ndim: usize, xmin: Position, xmax: Position) -> bool
-    requires { dimension ndim ≡ true }
-    ensures { result ≡ ordered (axes ndim xmin) (axes ndim xmax) }
+#[tactic(auto, using(crate::proofs::Sound::ordered_tests), unfolding(basics::specs::Lists::zip_with))]
+fn are_ordered(ndim: Dimension, xmin: Position, xmax: Position) -> bool
+    ensures { result ≡ ordered (axes ndim.n xmin) (axes ndim.n xmax) }
 {
     geometry::on_every_axis(ndim, xmin.x <= xmax.x, xmin.y <= xmax.y, xmin.z <= xmax.z)
 }
 
 // Whether the index by itself is good. In 2D the third axis is not judged.
+#[tactic(auto, unfolding(crate::specs::Index::good_index))]
 fn is_good(grid: GridCells) -> bool
     requires { dimension grid.ndim ≡ true }
     ensures { result ≡ good_index grid }
 {
-    let ndim = grid.ndim;
+    let ndim = Dimension { n: grid.ndim };
     is_side(grid.side_length)
         & (grid::divisions_ok(ndim, grid.ndiv)
             & (corner_ok(ndim, grid.xmin)
@@ -59,87 +73,88 @@ fn is_good(grid: GridCells) -> bool
 }
 
 // Whether the lists hold what the index says is in use.
-fn are_enough(grid: GridCells, keys: &[u64], cells: &[u64], large: &[u64]) -> bool
-    ensures { result ≡ enough_entries grid (index_lists keys.now cells.now large.now) }
+#[tactic(auto, unfolding(crate::specs::Index::enough_entries))]
+fn are_enough(grid: GridCells, lists: IndexLists) -> bool
+    ensures { result ≡ enough_entries grid (lent lists.entry) }
 {
-    (cells.len() == keys.len()) & ((grid.used <= keys.len()) & (grid.large <= large.len()))
+    (lists.cells.len() == lists.keys.len())
+        & ((grid.used <= lists.keys.len()) & (grid.large <= lists.large.len()))
 }
 
-// Whether the rows in use are good, each by itself, and in strict order: one pass, in which each row is judged with the next.
-fn are_rows_good(keys: &[u64], cells: &[u64], used: usize, count: u64, ncell: u64) -> bool
-    requires { (used ≤ length keys.now) × (used ≤ length cells.now) }
-    ensures { result ≡ good_rows count ncell (slots_of keys.now cells.now used) }
+// Whether rows are good, each by itself, and in strict order: one pass, in which each row is judged with the next.
+fn are_rows_good(keys: &[u64], cells: &[u64], count: u64, ncell: u64) -> bool
+    requires { length cells.now ≡ length keys.now }
+    ensures { result ≡ good_rows count ncell (slots_of keys.now cells.now (length keys.now)) }
 {
-    if used == 0 {
+    let Some(last) = keys.len().checked_sub(1) else {
         return true;
-    }
+    };
     // no way out of the loop before its end: a flag costs less than a branch
     let mut ok = true;
-    let mut i = 0;
-    while i + 1 < used {
-        ok = ok
-            & (((keys[i] < count) & (cells[i] < ncell))
-                & table::ahead(keys[i], cells[i], keys[i + 1], cells[i + 1]));
-        i += 1;
+    for i in 0..last {
+        ok &= ((keys[i] < count) & (cells[i] < ncell))
+            & table::ahead(keys[i], cells[i], keys[i + 1], cells[i + 1]);
     }
-    ok & ((keys[i] < count) & (cells[i] < ncell))
+    ok & ((keys[last] < count) & (cells[last] < ncell))
 }
 
-// Whether the first n are numbers of cells, and ascend: in one pass too.
-fn are_large_good(large: &[u64], n: usize, ncell: u64) -> bool
-    requires { n ≤ length large.now }
-    ensures { result ≡ good_numbers ncell (take n large.now) }
+// Whether these are numbers of cells, and ascend: in one pass too.
+fn are_large_good(large: &[u64], ncell: u64) -> bool
+    ensures { result ≡ good_numbers ncell large.now }
 {
-    if n == 0 {
+    let Some(last) = large.len().checked_sub(1) else {
         return true;
-    }
+    };
     let mut ok = true;
-    let mut i = 0;
-    while i + 1 < n {
-        ok = ok & ((large[i] < ncell) & (large[i] < large[i + 1]));
-        i += 1;
+    for i in 0..last {
+        ok &= (large[i] < ncell) & (large[i] < large[i + 1]);
     }
-    ok & (large[i] < ncell)
+    ok & (large[last] < ncell)
 }
 
 // Whether 13 is not the case, of an index of so many cells: the index by itself, the lists, and what they hold.
-fn is_sound(grid: GridCells, ncell: usize, keys: &[u64], cells: &[u64], large: &[u64]) -> bool
+#[tactic(auto, unfolding(crate::specs::Index::sound_index))]
+fn is_sound(grid: GridCells, ncell: usize, lists: IndexLists) -> bool
     requires { dimension grid.ndim ≡ true }
-    ensures { result ≡ sound_index grid ncell (index_lists keys.now cells.now large.now) }
+    ensures { result ≡ sound_index grid ncell (lent lists.entry) }
 {
     if !is_good(grid) {
         return false;
     }
-    if !are_enough(grid, keys, cells, large) {
+    if !are_enough(grid, lists) {
         return false;
     }
-    let count = grid::container_count(grid.ndim, grid.ndiv);
+    let count = grid::container_count(Dimension { n: grid.ndim }, grid.ndiv);
     let ncell = ncell as u64;
-    are_rows_good(keys, cells, grid.used, count, ncell) & are_large_good(large, grid.large, ncell)
+    are_rows_good(
+        &lists.keys[..grid.used],
+        &lists.cells[..grid.used],
+        count,
+        ncell,
+    ) & are_large_good(&lists.large[..grid.large], ncell)
 }
 
-// 1, 24, 19 or 13, in the index's dimension; or 0.
-pub fn refused(
-    grid: GridCells,
-    coords: &[f64],
-    corners: &[u32],
-    keys: &[u64],
-    cells: &[u64],
-    large: &[u64],
-) -> u64
-    ensures { result ≡ code (fault (index_tests grid (mesh_of coords.now corners.now) (index_lists keys.now cells.now large.now))) }
-{
-    let ndim = grid.ndim;
-    let sizes = grid_cells::refusals::sizes_refused(ndim, coords, corners, keys, cells, large);
-    if sizes != 0 {
-        return sizes;
+impl<'a, 'b, 'c> SoundIndex<'a, 'b, 'c> {
+    // The index, known to be sound, or the refusal 1, 24, 19 or 13. The mesh's own dimension is not read.
+    pub fn new(
+        grid: GridCells,
+        mesh: Mesh<'a, 'b>,
+        lists: IndexLists<'c>,
+    ) -> Result<SoundIndex<'a, 'b, 'c>, Refusal>
+        ensures judged { fault_in result ≡ fault (index_tests grid (seen mesh.entry) (lent lists.entry)) }
+        ensures grid { IfOk result (λ s. s.grid ≡ grid) }
+        ensures mesh { IfOk result (λ s. seen s.mesh.mesh ≡ seen mesh.entry) }
+        ensures lists { IfOk result (λ s. s.lists ≡ lists.entry) }
+    {
+        let mesh = Mesh {
+            ndim: grid.ndim,
+            ..mesh
+        };
+        grid_cells::refusals::sizes_fault(mesh, lists)?;
+        let mesh = mesh.whole()?;
+        if !is_sound(grid, mesh.cell_count(), lists) {
+            return Err(Refusal::Damaged);
+        }
+        Ok(SoundIndex { grid, mesh, lists })
     }
-    if mesh::is_broken(ndim, coords, corners) {
-        return 19;
-    }
-    let ncell = mesh::cell_count(ndim, corners);
-    if !is_sound(grid, ncell, keys, cells, large) {
-        return 13;
-    }
-    0
 }

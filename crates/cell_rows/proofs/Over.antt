@@ -1,15 +1,14 @@
 -- Lists written over the front of other lists.
 -- Assumes nothing.
-use Prim.Native.Nat.{ℕ, suc, ◌+◌, ◌≤◌, ◌<◌}
-use native.Mathlib.Nat.{zero-add}
+use Prim.Native.Nat.{ℕ, suc, ◌+◌, ◌-◌, ◌≤◌, ◌<◌}
 use native.Mathlib.Numerals.{add-one}
 use native.Mathlib.Omega.{arith}
-use mathlib.Core.Path.{◌≡◌, refl, sym, ap, ap₂, ◌∙◌, subst}
-use mathlib.Core.List.{List, [], ◌++◌, map}
-use lib.ListN.{length, get_or, take, drop, set, length-append, length-drop, length-map, get_or-map}
-use lib.Seq.{paste, paste-suc, take_at, drop_at, length-take-le, take-suc, drop-cons, set_at, append_snoc, drop-drop, take-add, get_or_at}
+use mathlib.Core.Path.{◌≡◌, refl, sym, ap, ap₂, ◌∙◌}
+use mathlib.Core.List.{List, [], ◌++◌, map, append_assoc, append-nil}
+use lib.ListN.{length, get_or, take, drop, set, length-append, length-drop, length-map, get_or-map, drop_of_length-le}
+use lib.Seq.{take_at, drop_at, length-take-le, take-suc, drop-cons, set_at, append_snoc, drop-drop, take-add, take-length, get_or_at}
+use borrow.Rule.Slice.PartMut.{put_mid}
 use Rattle.basics.specs.Lists.{over}
-use Rattle.basics.proofs.Lists.{map-take}
 
 module _ {A : Type 0} where
   pub take-over : (new old : List A) (n : ℕ) → length new ≡ n → take n (over new old) ≡ new
@@ -47,40 +46,40 @@ module _ {A : Type 0} where
       ∙ sym (ap (λ (j : ℕ). take j new ++ drop (length (take j new)) old) (add-one n) ∙ ap (λ (j : ℕ). take (suc n) new ++ drop j old) f)
 
   -- the first n of the new, and k more that another list has
-  pub over_more : (new old l : List A) (n k : ℕ) → n + k ≤ length new → length new ≤ length old → take k (drop n new) ≡ take k l → k ≤ length l
-      → paste (over (take n new) old) n l k ≡ over (take (n + k) new) old
+  pub over_more : (new old l : List A) (n k : ℕ) → n + k ≤ length new → length new ≤ length old → take k (drop n new) ≡ l → length l ≡ k
+      → take n (over (take n new) old) ++ over l (drop n (over (take n new) old)) ≡ over (take (n + k) new) old
   unfolding over
   over_more new old l n k h j e m =
       let f : length (take n new) ≡ n = length-take-le n new (omega arith) in
       let g : length (take (n + k) new) ≡ n + k = length-take-le (n + k) new h in
-      ap₂ (λ (a b : List A). a ++ take k l ++ b) (take-over (take n new) old n f)
-      (rest n k f)
-      ∙ sym
-      (ap (λ (i : ℕ). take (n + k) new ++ drop i old) g
-      ∙ ap (λ (a : List A). a ++ drop (n + k) old) (take-add n k new ∙ ap (λ (a : List A). take n new ++ a) e))
-    where
-      rest : (n k : ℕ) → length (take n new) ≡ n → drop (n + k) (over (take n new) old) ≡ drop (n + k) old
-      rest n k f = sym (drop-drop k n (over (take n new) old)) ∙ ap (drop k) (drop-over (take n new) old n f) ∙ drop-drop k n old
+      let front : take n (over (take n new) old) ≡ take n new = take-over (take n new) old n f in
+      let rest : drop n (over (take n new) old) ≡ drop n old = drop-over (take n new) old n f in
+      rw (front, rest, m, g, drop-drop, take-add n k new, e, append_assoc)
 
--- what stands at the front, put through a function
-pub over-map : (f : ℕ → ℕ) (new old l : List ℕ) (n : ℕ) → n ≡ length new → take n l ≡ new → paste old 0 (map f l) n ≡ over (map f new) old
-unfolding over
-over-map f new old l n e g =
-    ap₂ (λ (a : List ℕ) (k : ℕ). a ++ drop k old) (sym (map-take f n l) ∙ ap (map f) g) (zero-add n ∙ e ∙ sym (length-map new f))
+  -- a part of a list up to its end, whose front is written over
+  pub put_over : (new l part : List A) (n : ℕ) → n ≤ length l → part ≡ over new (take (length l - n) (drop n l)) → put_mid n (length l - n) l part ≡ take n l ++ over new (drop n l)
+  put_over new l part n h e =
+      let all : take (length l - n) (drop n l) ≡ drop n l = ap (λ (k : ℕ). take k (drop n l)) (sym (length-drop n l)) ∙ take-length (drop n l) in
+      let past : length (drop n l) ≤ length l - n = omega (arith, length-drop n l) in
+      ap (λ (x : List A). take n l ++ x) (ap₂ ◌++◌ (e ∙ ap (over new) all) (drop_of_length-le (drop n l) past) ∙ append-nil (over new (drop n l)))
 
--- a walk that puts the entries of a list through a function, into another list or into itself
-pub paste_map : (f : ℕ → ℕ) (d l : List ℕ) (at i : ℕ) → at + i < length d → i < length l
-    → set (paste d at (map f l) i) (at + i) (f (get_or l i 0)) ≡ paste d at (map f l) (i + 1)
-paste_map f d l at i h k =
-    ap (λ (v : ℕ). set (paste d at (map f l) i) (at + i) v) (sym (get_or-map f l i 0))
-    ∙ paste-suc d at (map f l) i (f 0) h (rw (length-map l f) k)
-    ∙ ap (λ (j : ℕ). paste d at (map f l) j) (sym (add-one i))
+  -- what is not written over yet
+  pub over_ahead : (new old : List A) (i : ℕ) (d : A) → i ≤ length new → i < length old → get_or (over (take i new) old) i d ≡ get_or old i d
+  unfolding over
+  over_ahead new old i d h k =
+      let e : length (take i new) ≡ i = length-take-le i new h in
+      rw (e, drop-cons old i d k) (get_or_at (take i new) (get_or old i d) (drop (suc i) old) d i e)
 
-pub set_front : (f : ℕ → ℕ) (d l : List ℕ) (i : ℕ) → i < length d → i < length l → set (paste d 0 (map f l) i) i (f (get_or l i 0)) ≡ paste d 0 (map f l) (i + 1)
-set_front f d l i h k = subst (λ (j : ℕ). set (paste d 0 (map f l) i) j (f (get_or l i 0)) ≡ paste d 0 (map f l) (i + 1)) (zero-add i) (paste_map f d l 0 i (rw (zero-add i) h) k)
+  -- all that there is
+  pub over_all : (new old : List A) (n : ℕ) → length new ≡ n → length old ≡ n → over (take n new) old ≡ new
+  unfolding over
+  over_all new old n e f =
+      let all : take n new ≡ new = ap (λ (k : ℕ). take k new) (sym e) ∙ take-length new in
+      let past : length old ≤ length new = omega arith in
+      rw (all, drop_of_length-le old past, append-nil)
 
--- what the walk has not reached
-pub paste_ahead : (d s : List ℕ) (i : ℕ) → i < length d → i ≤ length s → get_or (paste d 0 s i) i 0 ≡ get_or d i 0
-paste_ahead d s i h k =
-    ap (λ (l : List ℕ). get_or (take i s ++ l) i 0) (ap (λ (j : ℕ). drop j d) (zero-add i) ∙ drop-cons d i 0 h)
-    ∙ get_or_at (take i s) (get_or d i 0) (drop (suc i) d) 0 i (length-take-le i s k)
+-- a walk that puts the entries of a list through a function and writes them over the front of a list
+pub over-map_next : (f : ℕ → ℕ) (l old : List ℕ) (i v : ℕ) → i < length l → length l ≤ length old → v ≡ get_or l i 0 → set (over (take i (map f l)) old) i (f v) ≡ over (take (i + 1) (map f l)) old
+over-map_next f l old i v h k e =
+    ap (λ (x : ℕ). set (over (take i (map f l)) old) i x) (ap f e ∙ sym (get_or-map f l i 0))
+    ∙ over-next (map f l) old i (f 0) (rw (length-map l f) h) (rw (length-map l f) k)

@@ -4,66 +4,63 @@ use Prim.Native.Nat.{ℕ, ◌+◌, ◌*◌, ◌≤◌, ◌<◌}
 use native.Mathlib.Nat.{add-zero}
 use native.Mathlib.Numerals.{add-one}
 use native.Mathlib.Omega.{arith}
+use Rattle.std.proofs.Common.{rules}
 use mathlib.Core.Path.{◌≡◌, refl, sym, ap, ap₂, ◌∙◌}
 use mathlib.Core.Bool.{Bool, true, false, ◌||◌}
-use mathlib.Core.Option.{none, some}
 use mathlib.Core.List.{List, [], ◌∷◌, ◌++◌, map}
 use lib.ListN.{length, get_or, take, drop, set, length-append, length-map, length-drop}
-use lib.Seq.{paste, length-take-le, drop-drop, take-length, get_or-drop, drop_at, take_at}
-use Rattle.basics.proofs.Bools.{by_test, clash}
-use Rattle.basics.specs.Lists.{all, any, over}
-use Rattle.basics.proofs.Lists.{map-take}
+use lib.Seq.{length-take-le, drop-drop, take-length, get_or-drop, drop_at, take_at}
+use Rattle.basics.proofs.Bools.{by_test, or_left, or_right}
+use Rattle.basics.specs.Lists.{any, over}
 use Rattle.mesh.specs.Mesh.{Mesh, Box, cell_count, box_of}
 use Rattle.sorting.specs.Sorted.{sorted_of}
 use Rattle.sorting.proofs.Orders.{length-sorted}
 use Rattle.cell_rows.specs.declared.Containers.{Containers}
-use Rattle.cell_rows.specs.declared.Keys.{Keys}
-use Rattle.cell_rows.specs.declared.Keys.TheVariants.{Count, TooFar}
+use Rattle.std.specs.Prelude.{Option, Some, None, IsSome}
+use Rattle.cell_rows.specs.declared.keys.CellKeys.{CellKeys}
+use Rattle.cell_rows.specs.Keys.{keys_in}
 use Rattle.cell_sizes.specs.Large.{boxes, numbered}
 use Rattle.cell_rows.specs.Filing.{file_cells}
-use Rattle.cell_rows.specs.Steps.{box_keys_or, filed_keys, too_far, filed_keys_or, Holds, pack, packed_key, packed_cell, packed_rows, rows_in, row_count_or, Fitting, Written, Filed, Noted}
+use Rattle.cell_rows.specs.Steps.{box_keys_or, filed_keys, too_far, filed_keys_or, pack, packed_key, packed_cell, packed_rows, row_count_or, Fitting, Written, Filed}
 use Rattle.cell_sizes.proofs.Boxes.{boxes-next, boxes_end}
-use Rattle.cell_rows.proofs.Over.{take-over, length_over, over-over, over_none, over-next, over_more, over-map}
+use Rattle.cell_rows.proofs.Over.{take-over, drop-over, length_over, over_none, over-next, over_more}
 use Rattle.cell_rows.proofs.Rows.{rows-keys, rows-cells}
 
 -- ---- one cell
 
 module _ (g : Containers) (p : Box → Bool) (b : Box) where
-  filed_or : p b ≡ true → filed_keys_or g p b ≡ box_keys_or g b
+  pub cell_filed : {r : Option (List ℕ)} → p b ≡ true → r ≡ box_keys_or g b → r ≡ filed_keys_or g p b
   unfolding filed_keys_or filed_keys too_far box_keys_or
-  filed_or e = rw e
+  cell_filed e h = h ∙ rw e
 
-  none_or : p b ≡ false → filed_keys_or g p b ≡ some []
+  pub cell_none : p b ≡ false → Some [] ≡ filed_keys_or g p b
   unfolding filed_keys_or filed_keys too_far
-  none_or e = rw e
-
-  pub cell_filed : {r : Keys} {l : List ℕ} → p b ≡ true → Holds (box_keys_or g b) r l → Holds (filed_keys_or g p b) r l
-  cell_filed e h = record { size = h.size; few = h.few; small = h.small; are = h.are ∙ sym (filed_or e) }
-
-  pub cell_none : {l : List ℕ} → length l ≡ 8 → p b ≡ false → Holds (filed_keys_or g p b) (Count 0) l
-  unfolding all
-  cell_none z e = record { size = z; few = omega arith; small = refl; are = sym (none_or e) }
+  cell_none e = rw e
 
   -- what an answer tells of the cell
-  some-keys : (l : List ℕ) → some l ≡ filed_keys_or g p b → (too_far g p b ≡ false) × (filed_keys g p b ≡ l)
+  cell_keys : {l : List ℕ} → Some l ≡ filed_keys_or g p b → (too_far g p b ≡ false) × (filed_keys g p b ≡ l)
   unfolding filed_keys_or
-  some-keys l e = by_test (too_far g p b) (λ t. absurd (no_some l (rw t at e))) (λ t. (t, same (rw t at e)))
+  cell_keys {l} e = by_test (too_far g p b) (λ t. absurd (never (rw t at e))) (λ t. (t, same (rw t at e)))
     where
-      no_some : (l : List ℕ) → some l ≡ none → ⊥
-      no_some l f = let z : ◌≡◌ {A = ℕ} 0 1 = cc in omega arith
+      never : Some l ≡ None → ⊥
+      never f = cc
 
-      same : some l ≡ some (filed_keys g p b) → filed_keys g p b ≡ l
+      same : Some l ≡ Some (filed_keys g p b) → filed_keys g p b ≡ l
       same f = cc
 
-  pub cell_keys : (k : ℕ) (l : List ℕ) → Holds (filed_keys_or g p b) (Count k) l → (too_far g p b ≡ false) × (filed_keys g p b ≡ take k l)
-  cell_keys k l h = some-keys (take k l) h.are
-
-  pub cell_far : (l : List ℕ) → Holds (filed_keys_or g p b) TooFar l → too_far g p b ≡ true
+  cell_far : None ≡ filed_keys_or g p b → too_far g p b ≡ true
   unfolding filed_keys_or
-  cell_far l h = by_test (too_far g p b) (λ t. t) (λ t. absurd (no_none (filed_keys g p b) (rw t at h.are)))
+  cell_far e = by_test (too_far g p b) (λ t. t) (λ t. absurd (never (rw t at e)))
     where
-      no_none : (l : List ℕ) → none ≡ some l → ⊥
-      no_none l f = let z : ◌≡◌ {A = ℕ} 0 1 = cc in omega arith
+      never : None ≡ Some (filed_keys g p b) → ⊥
+      never f = cc
+
+pub some_keys : (r : Option CellKeys) {l : List ℕ} → keys_in r ≡ Some l → IsSome r
+some_keys None {l} e = absurd (never e)
+  where
+    never : None ≡ Some l → ⊥
+    never f = cc
+some_keys (Some k) e = search rules
 
 -- ---- counting
 
@@ -91,34 +88,23 @@ pub record Tallied (g : Containers) (p : Box → Bool) (n : ℕ) (m : Mesh) (c k
   pub few : k ≤ 8 * c
 
 module _ {g : Containers} {p : Box → Bool} {n : ℕ} {m : Mesh} where
-  pub tally_start : Tallied g p n m 0 0
-  tally_start = record { near = refl; total = omega arith; few = omega arith }
-
   module _ {c k : ℕ} (w : Tallied g p n m c k) where
-    pub tally_next : {b : Box} {more : ℕ} {l : List ℕ} → c < cell_count n m → b ≡ box_of n m c → Holds (filed_keys_or g p b) (Count more) l → Tallied g p n m (c + 1) (k + more)
-    tally_next {b} {more} {l} h e f =
-        let j : more ≤ length l = omega (arith, f.few, f.size) in
-        let q = cell_keys g p b more l f in
-        let u : too_far g p (box_of n m c) ≡ false = rw e at q.0 in
-        let v : filed_keys g p (box_of n m c) ≡ take more l = rw e at q.1 in
+    pub tally_next : {l : List ℕ} → c < cell_count n m → length l ≤ 8 → Some l ≡ filed_keys_or g p (box_of n m c) → Tallied g p n m (c + 1) (k + length l)
+    tally_next {l} h few e =
+        let q = cell_keys g p (box_of n m c) e in
         record {
-          near = w.near ∙ rw (any_next g p n m c h, u);
-          total =
-              w.total
-              ∙ rw (rows_next g p n m c h, v, length-append (map (pack c) (take more l)) (packed_rows g p (c + 1) (drop (c + 1) (boxes n m))), length-map (take more l) (pack c), length-take-le more l j)
-              (omega arith);
-          few = omega (arith, w.few, f.few);
+          near = w.near ∙ rw (any_next g p n m c h, q.0);
+          total = w.total ∙ rw (rows_next g p n m c h, q.1, length-append (map (pack c) l) (packed_rows g p (c + 1) (drop (c + 1) (boxes n m))), length-map l (pack c)) (omega arith);
+          few = omega (arith, w.few);
         }
 
-    pub tally_far : {b : Box} {l : List ℕ} → c < cell_count n m → b ≡ box_of n m c → Holds (filed_keys_or g p b) TooFar l → rows_in TooFar ≡ row_count_or g p (boxes n m)
+    pub tally_far : c < cell_count n m → None ≡ filed_keys_or g p (box_of n m c) → None ≡ row_count_or g p (boxes n m)
     unfolding row_count_or
-    tally_far {b} {l} h e f =
-        let u : too_far g p (box_of n m c) ≡ true = rw e at (cell_far g p b l f) in
-        rw (w.near, any_next g p n m c h, u)
+    tally_far h e = rw (w.near, any_next g p n m c h, cell_far g p (box_of n m c) e)
 
-    pub tally_end : cell_count n m ≤ c → rows_in (Count k) ≡ row_count_or g p (boxes n m)
+    pub tally_end : cell_count n m ≤ c → Some k ≡ row_count_or g p (boxes n m)
     unfolding row_count_or
-    tally_end h = rw (w.near, any_end g p n m c h, w.total, rows_end g p n m c h) (ap some (omega arith))
+    tally_end h = rw (w.near, any_end g p n m c h, w.total, rows_end g p n m c h) (ap Some (omega arith))
 
 -- ---- writing
 
@@ -136,50 +122,44 @@ module _ {g : Containers} {p : Box → Bool} {n : ℕ} {m : Mesh} {l₀ : List �
     pub packing_length : length l ≡ length l₀
     packing_length = ap length w.written ∙ length_over (take k (packed_rows g p 0 (boxes n m))) l₀ (omega (arith, fit.room, length-take-le k (packed_rows g p 0 (boxes n m)) w.inside, w.inside))
 
-    module _ {b : Box} (h : c < cell_count n m) (e : b ≡ box_of n m c) where
-      pub packing_far : {keys : List ℕ} {X : Type 0} → Holds (filed_keys_or g p b) TooFar keys → X
-      packing_far {keys} f =
-          let u : too_far g p (box_of n m c) ≡ true = rw e at (cell_far g p b keys f) in
-          clash (any_next g p n m c h ∙ rw u) w.near
+    module _ (h : c < cell_count n m) where
+      -- no corner is too far
+      pub packing_some : {r : Option (List ℕ)} → r ≡ filed_keys_or g p (box_of n m c) → r ≡ Some (filed_keys g p (box_of n m c))
+      unfolding filed_keys_or
+      packing_some e = e ∙ rw (or_left (too_far g p (box_of n m c)) _ (sym (any_next g p n m c h) ∙ w.near))
 
-      module _ {more : ℕ} {keys : List ℕ} (f : Holds (filed_keys_or g p b) (Count more) keys) where
-        j : more ≤ length keys
-        j = omega (arith, f.few, f.size)
+      module _ {keys : List ℕ} (f : Some keys ≡ filed_keys_or g p (box_of n m c)) where
+        left : drop k (packed_rows g p 0 (boxes n m)) ≡ map (pack c) keys ++ packed_rows g p (c + 1) (drop (c + 1) (boxes n m))
+        left = w.rest ∙ rows_next g p n m c h ∙ ap (λ (ks : List ℕ). map (pack c) ks ++ packed_rows g p (c + 1) (drop (c + 1) (boxes n m))) (cell_keys g p (box_of n m c) f).1
 
-        own : length (map (pack c) (take more keys)) ≡ more
-        own = length-map (take more keys) (pack c) ∙ length-take-le more keys j
-
-        left : drop k (packed_rows g p 0 (boxes n m)) ≡ map (pack c) (take more keys) ++ packed_rows g p (c + 1) (drop (c + 1) (boxes n m))
-        left = w.rest ∙ rows_next g p n m c h ∙ ap (λ (ks : List ℕ). map (pack c) ks ++ packed_rows g p (c + 1) (drop (c + 1) (boxes n m))) (rw e at (cell_keys g p b more keys f).1)
-
-        inside' : k + more ≤ length (packed_rows g p 0 (boxes n m))
+        inside' : k + length keys ≤ length (packed_rows g p 0 (boxes n m))
         inside' =
             omega (
               arith,
               w.inside,
               length-drop k (packed_rows g p 0 (boxes n m)),
               ap length left,
-              length-append (map (pack c) (take more keys)) (packed_rows g p (c + 1) (drop (c + 1) (boxes n m))),
-              own,
+              length-append (map (pack c) keys) (packed_rows g p (c + 1) (drop (c + 1) (boxes n m))),
+              length-map keys (pack c),
             )
 
-        pub packing_room : k + more ≤ length l
+        pub packing_room : k + length keys ≤ length l
         packing_room = omega (arith, inside', fit.room, packing_length)
 
-        pub packing_next : {l' : List ℕ} → l' ≡ paste l k (map (pack c) keys) more → Packing g p n m (c + 1) (k + more) l₀ l'
+        pub packing_next : {l' : List ℕ} → l' ≡ take k l ++ over (map (pack c) keys) (drop k l) → Packing g p n m (c + 1) (k + length keys) l₀ l'
         packing_next i = record {
           inside = inside';
           rest =
-              sym (drop-drop more k (packed_rows g p 0 (boxes n m)))
-              ∙ ap (drop more) left
-              ∙ drop_at (map (pack c) (take more keys)) (packed_rows g p (c + 1) (drop (c + 1) (boxes n m))) more own;
+              sym (drop-drop (length keys) k (packed_rows g p 0 (boxes n m)))
+              ∙ ap (drop (length keys)) left
+              ∙ drop_at (map (pack c) keys) (packed_rows g p (c + 1) (drop (c + 1) (boxes n m))) (length keys) (length-map keys (pack c));
           written =
               i
-              ∙ ap (λ (x : List ℕ). paste x k (map (pack c) keys) more) w.written
-              ∙ over_more (packed_rows g p 0 (boxes n m)) l₀ (map (pack c) keys) k more inside' fit.room
-              (ap (take more) left ∙ take_at (map (pack c) (take more keys)) (packed_rows g p (c + 1) (drop (c + 1) (boxes n m))) more own ∙ map-take (pack c) more keys)
-              (rw (length-map keys (pack c)) j);
-          near = sym (any_next g p n m c h ∙ rw (rw e at (cell_keys g p b more keys f).0)) ∙ w.near;
+              ∙ ap (λ (x : List ℕ). take k x ++ over (map (pack c) keys) (drop k x)) w.written
+              ∙ over_more (packed_rows g p 0 (boxes n m)) l₀ (map (pack c) keys) k (length keys) inside' fit.room
+              (ap (take (length keys)) left ∙ take_at (map (pack c) keys) (packed_rows g p (c + 1) (drop (c + 1) (boxes n m))) (length keys) (length-map keys (pack c)))
+              (length-map keys (pack c));
+          near = or_right (too_far g p (box_of n m c)) _ (sym (any_next g p n m c h) ∙ w.near);
         }
 
     pub packing_end : cell_count n m ≤ c → Written (packed_rows g p 0 (boxes n m)) l₀ k l
@@ -189,31 +169,31 @@ module _ {g : Containers} {p : Box → Bool} {n : ℕ} {m : Mesh} {l₀ : List �
 
 -- ---- sorted, and taken apart
 
+-- the packed rows stand at the front of the keys, are sorted there, and taken apart
 module _ (g : Containers) (p : Box → Bool) (bs : List Box) (h : length bs ≤ 65536) {keys₀ keys₁ : List ℕ} {n : ℕ} (w : Written (packed_rows g p 0 bs) keys₀ n keys₁) where
+  abbrev sorted : List ℕ
+  sorted = sorted_of (packed_rows g p 0 bs)
+
   front : take n keys₁ ≡ packed_rows g p 0 bs
   front = ap (take n) w.are ∙ take-over (packed_rows g p 0 bs) keys₀ n (sym w.count)
 
-  sorted_front : (keys₂ : List ℕ) → keys₂ ≡ over (sorted_of (take n keys₁)) keys₁ → keys₂ ≡ over (sorted_of (packed_rows g p 0 bs)) keys₀
-  sorted_front keys₂ e =
-      e
-      ∙ ap₂ (λ (a b : List ℕ). over (sorted_of a) b) front w.are
-      ∙ over-over (sorted_of (packed_rows g p 0 bs)) (packed_rows g p 0 bs) keys₀ (length-sorted (packed_rows g p 0 bs))
+  rest : drop n keys₁ ≡ drop n keys₀
+  rest = ap (drop n) w.are ∙ drop-over (packed_rows g p 0 bs) keys₀ n (sym w.count)
 
-  pub filed_rows : {cells₀ keys₂ keys₃ cells₃ : List ℕ} → keys₂ ≡ over (sorted_of (take n keys₁)) keys₁ → keys₃ ≡ paste keys₂ 0 (map packed_key keys₂) n → cells₃ ≡ paste cells₀ 0 (map packed_cell keys₂) n
-      → Filed (file_cells g p 0 bs []) keys₀ cells₀ keys₃ cells₃
-  filed_rows {cells₀} {keys₂} e i j =
-      let s = sorted_of (packed_rows g p 0 bs) in
-      let k : n ≡ length s = w.count ∙ sym (length-sorted (packed_rows g p 0 bs)) in
-      let f : keys₂ ≡ over s keys₀ = sorted_front keys₂ e in
-      let t : take n keys₂ ≡ s = ap (take n) f ∙ take-over s keys₀ n (sym k) in
+  pub filed_rows : {cells₀ sorted₁ keys₂ cells₁ : List ℕ} → sorted₁ ≡ sorted_of (take n keys₁) → keys₂ ≡ map packed_key (take n (sorted₁ ++ drop n keys₁))
+      → cells₁ ≡ map packed_cell (take n (sorted₁ ++ drop n keys₁)) → Filed (file_cells g p 0 bs []) keys₀ cells₀ (keys₂ ++ drop n (sorted₁ ++ drop n keys₁)) (cells₁ ++ drop n cells₀)
+  unfolding over
+  filed_rows {cells₀} {sorted₁} e i j =
+      let s : sorted₁ ≡ sorted = e ∙ ap sorted_of front in
+      let long : length sorted ≡ n = length-sorted (packed_rows g p 0 bs) ∙ sym w.count in
+      let own : length sorted₁ ≡ n = ap length s ∙ long in
+      let taken : take n (sorted₁ ++ drop n keys₁) ≡ sorted = take_at sorted₁ (drop n keys₁) n own ∙ s in
+      let left : drop n (sorted₁ ++ drop n keys₁) ≡ drop n keys₀ = drop_at sorted₁ (drop n keys₁) n own ∙ rest in
+      let keys = i ∙ ap (map packed_key) taken ∙ rows-keys g p bs h in
+      let cells = j ∙ ap (map packed_cell) taken ∙ rows-cells g p bs h in
       record {
-        keys-are =
-            i
-            ∙ over-map packed_key s keys₂ keys₂ n k t
-            ∙ ap (over (map packed_key s)) f
-            ∙ over-over (map packed_key s) s keys₀ (length-map s packed_key)
-            ∙ ap (λ (l : List ℕ). over l keys₀) (rows-keys g p bs h);
-        cells_are = j ∙ over-map packed_cell s cells₀ keys₂ n k t ∙ ap (λ (l : List ℕ). over l cells₀) (rows-cells g p bs h);
+        keys-are = ap₂ ◌++◌ keys (left ∙ ap (λ (k : ℕ). drop k keys₀) (sym long ∙ sym (length-map sorted packed_key) ∙ ap length (rows-keys g p bs h)));
+        cells_are = ap₂ ◌++◌ cells (ap (λ (k : ℕ). drop k cells₀) (sym long ∙ sym (length-map sorted packed_cell) ∙ ap length (rows-cells g p bs h)));
       }
 
 -- ---- large cells
@@ -246,26 +226,17 @@ module _ {n : ℕ} {m : Mesh} {q : Box → Bool} {l₀ : List ℕ} (room : lengt
       pub marking_room : q b ≡ true → k < length l
       marking_room t = omega (arith, one_more t, room, marking_length)
 
-      pub marking_next : {r : ℕ} {l' : List ℕ} → Noted (q b) c k l r l' → Marking n m q (c + 1) r l₀ l'
-      marking_next {r} {l'} i =
-          by_test (q b)
-          (λ t.
-          let u : r ≡ k + 1 = rw t at i.count in
-          let v : l' ≡ set l k c = rw t at i.are in
+      pub marking_large : {l' : List ℕ} → q b ≡ true → l' ≡ set l k c → Marking n m q (c + 1) (k + 1) l₀ l'
+      marking_large t v =
           let at : get_or (numbered q 0 (boxes n m)) k 0 ≡ c = ap (λ (j : ℕ). get_or (numbered q 0 (boxes n m)) j 0) (sym (add-zero k)) ∙ sym (get_or-drop k (numbered q 0 (boxes n m)) 0 0) ∙ ap (λ (x : List ℕ). get_or x 0 0) (next-large t) in
           record {
-            inside = omega (arith, one_more t, u);
-            rest = ap (λ (j : ℕ). drop j (numbered q 0 (boxes n m))) u ∙ sym (drop-drop 1 k (numbered q 0 (boxes n m))) ∙ ap (drop 1) (next-large t);
-            written = v ∙ ap₂ (λ (x : List ℕ) (y : ℕ). set x k y) w.written (sym at) ∙ over-next (numbered q 0 (boxes n m)) l₀ k 0 (one_more t) room ∙ ap (λ (j : ℕ). over (take j (numbered q 0 (boxes n m))) l₀) (sym u);
-          })
-          (λ t.
-          let u : r ≡ k = rw t at i.count in
-          let v : l' ≡ l = rw t at i.are in
-          record {
-            inside = omega (arith, w.inside, u);
-            rest = ap (λ (j : ℕ). drop j (numbered q 0 (boxes n m))) u ∙ next-other t;
-            written = v ∙ w.written ∙ ap (λ (j : ℕ). over (take j (numbered q 0 (boxes n m))) l₀) (sym u);
-          })
+            inside = omega (arith, one_more t);
+            rest = sym (drop-drop 1 k (numbered q 0 (boxes n m))) ∙ ap (drop 1) (next-large t);
+            written = v ∙ ap₂ (λ (x : List ℕ) (y : ℕ). set x k y) w.written (sym at) ∙ over-next (numbered q 0 (boxes n m)) l₀ k 0 (one_more t) room;
+          }
+
+      pub marking_other : q b ≡ false → Marking n m q (c + 1) k l₀ l
+      marking_other t = record { inside = w.inside; rest = next-other t; written = w.written }
 
     marked_all : cell_count n m ≤ c → drop k (numbered q 0 (boxes n m)) ≡ []
     unfolding numbered

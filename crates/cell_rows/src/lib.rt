@@ -2,19 +2,24 @@
 // first, then written into the lent keys as one number each, cell by cell, sorted there, and taken apart.
 #![tactic(auto)]
 
-ghost use Rattle.std.specs.Prelude.{ℕ, ◌+◌, ◌*◌, ◌%◌, ◌≤◌, ◌<◌, ◌≡◌, true, cond, map, [], eqb, ltb, length, take};
-ghost use Rattle.std.proofs.Math.Seq.{paste};
+ghost use Rattle.std.specs.Prelude.{ℕ, ◌+◌, ◌*◌, ◌%◌, ◌≤◌, ◌<◌, ◌≡◌, true, cond, map, [], eqb, ltb, length};
 ghost use Rattle.basics.specs.Lists.{all, over};
-ghost use Rattle.geometry.specs.Position.{coords as axes, dimension};
-ghost use Rattle.mesh.specs.Mesh.{mesh_of, cell_count, Whole, boxed};
-ghost use Rattle.cell_sizes.specs.Large.{boxes, is_large, is_filed, numbered, large_of};
+ghost use Rattle.geometry.specs.Position.{coords as axes};
+ghost use Rattle.grid.specs.Divisions.{counts, division};
+ghost use Rattle.mesh.specs.Mesh.{seen, cell_count, box_of, boxed};
+ghost use Rattle.cell_sizes.specs.Large.{boxes, is_large, numbered};
+ghost use Rattle.cell_sizes.specs.Steps.{files, lists};
 ghost use Rattle.cell_rows.specs.Filing.{box_corner, file_cells};
-ghost use Rattle.cell_rows.specs.Steps.{Keyed, Fileable, cell_container, Joined, Holds, box_keys_or, filed_keys_or, rows_in, row_count_or, pack, packed_key, packed_cell, packed_rows, Fitting, Written, Filed, Noted};
+ghost use Rattle.cell_rows.specs.Keys.{keys_in};
+ghost use Rattle.cell_rows.specs.Steps.{Keyed, cell_container, box_keys_or, filed_keys_or, row_count_or, pack, packed_key, packed_cell, packed_rows, Fitting, Written, Filed};
 
-use cell_sizes::Sizes;
-use geometry::Position;
-use grid::{Divisions, Located};
-use mesh::BoundingBox;
+mod keys;
+
+use cell_sizes::{Apart, Sizes};
+use geometry::{Dimension, Position};
+use grid::{ContainerKey, Divisions};
+use keys::CellKeys;
+use mesh::{BoundingBox, WholeMesh};
 
 // Where the containers of an index lie.
 #[derive(Clone, Copy)]
@@ -25,21 +30,15 @@ pub struct Containers {
     pub xmin: Position,
 }
 
-// The keys of a cell's containers, so many of them, or that a corner's ratio exceeds its divisions.
+// What is filed where: the cells of a mesh, those that are large apart, in the containers of an index.
 #[derive(Clone, Copy)]
-pub enum Keys {
-    Count(usize),
-    TooFar,
-}
-
-// The container that a position falls into.
-pub fn container(grid: Containers, x: Position) -> Located
-    requires { Keyed grid }
-    ensures { result ≡ cell_container grid (axes grid.ndim x) }
-{
-    let ndiv = grid.ndiv;
-    let xmin = grid.xmin;
-    grid::calc_container_key(grid.ndim, grid.side_length, ndiv, xmin, x)
+pub struct Filing<'a, 'b> {
+    pub grid: Containers,
+    pub sizes: Sizes,
+    pub mesh: WholeMesh<'a, 'b>,
+    pub ghost axes: { mesh.mesh.ndim ≡ grid.ndim },
+    pub ghost divisions: { all division (counts grid.ndim grid.ndiv) ≡ true },
+    pub ghost few: { cell_count grid.ndim (seen mesh.mesh) ≤ 65536 },
 }
 
 // The low end for an even number, the high end for an odd one.
@@ -60,217 +59,143 @@ fn box_corner(b: BoundingBox, c: usize) -> Position
     }
 }
 
-// Adds a key to the first n, if it is not among them. Returns how many there are then.
-fn join_once(keys: &mut [u64; 8], n: usize, key: u64) -> usize
-    requires fact_1 { length keys.old ≡ 8 }
-    requires fact_2 { n < 8 }
-    ensures { Joined keys.old n key result keys.new }
-{
-    if table::among(keys, n, key) {
-        return n;
+impl Containers {
+    // The container that a position falls into, or none where a ratio exceeds its divisions.
+    #[tactic(auto, unfolding(crate::specs::Steps::cell_container, grid::specs::Containers::located, crate::specs::Filing::cell_key, crate::specs::Filing::cell_exceeds))]
+    pub fn container(self, x: Position) -> Option<ContainerKey>
+        requires { Keyed self }
+        ensures { result ≡ cell_container self (axes self.ndim x) }
+    {
+        grid::calc_container_key(
+            Dimension { n: self.ndim },
+            self.side_length,
+            self.ndiv,
+            self.xmin,
+            x,
+        )
     }
-    keys[n] = key;
-    n + 1
-}
 
-// The keys of the containers that the corners of a box fall into, once each.
-fn corner_keys(grid: Containers, b: BoundingBox, keys: &mut [u64; 8]) -> Keys
-    requires fact_1 { Keyed grid }
-    requires fact_2 { length keys.old ≡ 8 }
-    ensures { Holds (box_keys_or grid (boxed grid.ndim b)) result keys.new }
-{
-    let ncorner = geometry::corner_count(grid.ndim);
-    let mut n = 0;
-    let mut c = 0;
-    while c < ncorner {
-        let Located::Key(key) = container(grid, box_corner(b, c)) else {
-            return Keys::TooFar;
-        };
-        n = join_once(keys, n, key.0);
-        c += 1;
+    // The keys of the containers that the corners of a box fall into, once each, or none where a corner's ratio exceeds its
+    // divisions. Inlined, as is `cell_keys`, so that the keys are not copied from frame to frame: a build takes a quarter less.
+    #[inline(always)]
+    fn corner_keys(self, b: BoundingBox) -> Option<CellKeys>
+        requires { Keyed self }
+        ensures { keys_in result ≡ box_keys_or self (boxed self.ndim b) }
+    {
+        let mut keys = CellKeys::new();
+        for c in 0..geometry::corner_count(Dimension { n: self.ndim }) {
+            keys.join(self.container(box_corner(b, c))?.0);
+        }
+        Some(keys)
     }
-    Keys::Count(n)
-}
-
-// The keys of a cell's containers; none for a cell that is kept apart.
-fn cell_keys(grid: Containers, sizes: Sizes, b: BoundingBox, keys: &mut [u64; 8]) -> Keys
-    requires fact_1 { Keyed grid }
-    requires fact_2 { length keys.old ≡ 8 }
-    ensures { Holds (filed_keys_or grid (is_filed sizes.apart sizes.limit) (boxed grid.ndim b)) result keys.new }
-{
-    if sizes.is_filed(grid.ndim, b) {
-        return corner_keys(grid, b, keys);
-    }
-    Keys::Count(0)
-}
-
-// How many rows there will be, or that a corner's ratio exceeds its divisions.
-pub fn count_rows(
-    grid: Containers,
-    sizes: Sizes,
-    coords: &[f64],
-    corners: &[u32],
-    ncell: usize,
-) -> Keys
-    requires { Fileable grid (mesh_of coords.now corners.now) ncell }
-    ensures { rows_in result ≡ row_count_or grid (is_filed sizes.apart sizes.limit) (boxes grid.ndim (mesh_of coords.now corners.now)) }
-{
-    let ndim = grid.ndim;
-    let mut keys = [0u64; 8];
-    let mut n = 0;
-    let mut cell = 0;
-    while cell < ncell {
-        let b = mesh::bounding_box(ndim, coords, corners, cell);
-        let Keys::Count(more) = cell_keys(grid, sizes, b, &mut keys) else {
-            return Keys::TooFar;
-        };
-        n += more;
-        cell += 1;
-    }
-    Keys::Count(n)
 }
 
 // A row in one number.
 fn pack_row(cell: usize, key: u64) -> u64
-    requires { (cell < 65536) × (key < 1073741824) }
+    requires cell { cell < 65536 }
+    requires key { key < 1073741824 }
     ensures { result ≡ pack cell key }
 {
     key * 65536 + cell as u64
 }
 
-// Writes the rows of one cell from entry n on.
-fn pack_cell(keys: &[u64; 8], count: usize, cell: usize, rows: &mut [u64], n: usize)
-    requires fact_1 { (length keys.now ≡ 8) × ((count ≤ 8) × (cell < 65536)) }
-    requires fact_2 { n + count ≤ length rows.old }
-    requires fact_3 { all (λ (k : ℕ). ltb k 1073741824) (take count keys.now) ≡ true }
-    ensures { rows.new ≡ paste rows.old n (map (pack cell) keys.now) count }
+// Writes the rows of one cell over the front of the lent list.
+fn pack_cell(keys: &[u64], cell: usize, rows: &mut [u64])
+    requires cell { cell < 65536 }
+    requires small { all (λ (k : ℕ). ltb k 1073741824) keys.now ≡ true }
+    requires room { length keys.now ≤ length rows.old }
+    ensures { rows.new ≡ over (map (pack cell) keys.now) rows.old }
 {
-    let mut i = 0;
-    while i < count {
-        rows[n + i] = pack_row(cell, keys[i]);
-        i += 1;
+    for (i, key) in keys.iter().enumerate() {
+        rows[i] = pack_row(cell, *key);
     }
 }
 
-// Writes the rows of all cells, cell by cell. Returns how many there are.
-fn pack_rows(
-    grid: Containers,
-    sizes: Sizes,
-    coords: &[f64],
-    corners: &[u32],
-    ncell: usize,
-    rows: &mut [u64],
-) -> usize
-    requires fact_1 { Fileable grid (mesh_of coords.now corners.now) ncell }
-    requires fact_2 { Fitting grid (is_filed sizes.apart sizes.limit) (boxes grid.ndim (mesh_of coords.now corners.now)) rows.old }
-    ensures { Written (packed_rows grid (is_filed sizes.apart sizes.limit) 0 (boxes grid.ndim (mesh_of coords.now corners.now))) rows.old result rows.new }
+// Takes rows apart: keys stay in `keys`, cells go to `cells`.
+fn unpack(keys: &mut [u64], cells: &mut [u64])
+    requires { length cells.old ≡ length keys.old }
+    ensures keys { keys.new ≡ map packed_key keys.old }
+    ensures cells { cells.new ≡ map packed_cell keys.old }
 {
-    let ndim = grid.ndim;
-    let mut keys = [0u64; 8];
-    let mut n = 0;
-    let mut cell = 0;
-    while cell < ncell {
-        let b = mesh::bounding_box(ndim, coords, corners, cell);
-        let Keys::Count(more) = cell_keys(grid, sizes, b, &mut keys) else {
-            return n;
-        };
-        pack_cell(&keys, more, cell, rows, n);
-        n += more;
-        cell += 1;
-    }
-    n
-}
-
-// Takes the first n rows apart: keys stay in `keys`, cells go to `cells`.
-fn unpack(keys: &mut [u64], cells: &mut [u64], n: usize)
-    requires { (n ≤ length keys.old) × (n ≤ length cells.old) }
-    ensures { (keys.new ≡ paste keys.old 0 (map packed_key keys.old) n) × (cells.new ≡ paste cells.old 0 (map packed_cell keys.old) n) }
-{
-    let mut i = 0;
-    while i < n {
-        cells[i] = keys[i] % 65536;
-        keys[i] = keys[i] / 65536;
-        i += 1;
+    for (i, key) in keys.iter_mut().enumerate() {
+        cells[i] = *key % 65536;
+        *key /= 65536;
     }
 }
 
-// Writes the rows of an index over the front of the lent lists.
-pub fn file_cells(
-    grid: Containers,
-    sizes: Sizes,
-    coords: &[f64],
-    corners: &[u32],
-    ncell: usize,
-    keys: &mut [u64],
-    cells: &mut [u64],
-)
-    requires fact_1 { Fileable grid (mesh_of coords.now corners.now) ncell }
-    requires fact_2 { (length cells.old ≡ length keys.old) × Fitting grid (is_filed sizes.apart sizes.limit) (boxes grid.ndim (mesh_of coords.now corners.now)) keys.old }
-    ensures { Filed (file_cells grid (is_filed sizes.apart sizes.limit) 0 (boxes grid.ndim (mesh_of coords.now corners.now)) []) keys.old cells.old keys.new cells.new }
-{
-    let n = pack_rows(grid, sizes, coords, corners, ncell, keys);
-    sorting::sort(keys, n);
-    unpack(keys, cells, n);
-}
-
-// Writes the number of a large cell at entry n. Returns how many there are then.
-fn note_large(
-    sizes: Sizes,
-    ndim: usize,
-    b: BoundingBox,
-    cell: usize,
-    large: &mut [u64],
-    n: usize,
-) -> usize
-    requires fact_1 { dimension ndim ≡ true }
-    requires fact_2 { (is_large sizes.limit (boxed ndim b) ≡ true → n < length large.old) }
-    ensures { Noted (is_large sizes.limit (boxed ndim b)) cell n large.old result large.new }
-{
-    if sizes.is_large(ndim, b) {
-        large[n] = cell as u64;
-        return n + 1;
+impl<'a, 'b> Filing<'a, 'b> {
+    // The keys of a cell's containers: none of a cell that is kept apart.
+    #[inline(always)]
+    fn cell_keys(self, cell: usize) -> Option<CellKeys>
+        requires { cell < cell_count self.grid.ndim (seen self.mesh.mesh) }
+        ensures { keys_in result ≡ filed_keys_or self.entry.grid (files self.entry.sizes) (box_of self.entry.grid.ndim (seen self.entry.mesh.mesh) cell) }
+    {
+        let b = self.mesh.bounding_box(cell);
+        if self.sizes.is_filed(Dimension { n: self.grid.ndim }, b) {
+            return self.grid.corner_keys(b);
+        }
+        Some(CellKeys::new())
     }
-    n
+
+    // How many rows there will be, or none where a corner's ratio exceeds its divisions.
+    pub fn count_rows(self) -> Option<usize>
+        ensures { result ≡ row_count_or self.entry.grid (files self.entry.sizes) (boxes self.entry.grid.ndim (seen self.entry.mesh.mesh)) }
+    {
+        let mut n = 0;
+        for cell in 0..self.mesh.cell_count() {
+            n += self.cell_keys(cell)?.as_slice().len();
+        }
+        Some(n)
+    }
+
+    // Writes the rows of all cells, cell by cell. Returns how many there are.
+    fn pack_rows(self, rows: &mut [u64]) -> usize
+        requires { Fitting self.grid (files self.sizes) (boxes self.grid.ndim (seen self.mesh.mesh)) rows.old }
+        ensures { Written (packed_rows self.entry.grid (files self.entry.sizes) 0 (boxes self.entry.grid.ndim (seen self.entry.mesh.mesh))) rows.old result rows.new }
+    {
+        let mut n = 0;
+        for cell in 0..self.mesh.cell_count() {
+            let keys = self.cell_keys(cell).unwrap();
+            let keys = keys.as_slice();
+            pack_cell(keys, cell, &mut rows[n..]);
+            n += keys.len();
+        }
+        n
+    }
+
+    // Writes the rows of an index over the front of the lent lists.
+    pub fn file_cells(self, keys: &mut [u64], cells: &mut [u64])
+        requires lengths { length cells.old ≡ length keys.old }
+        requires fitting { Fitting self.grid (files self.sizes) (boxes self.grid.ndim (seen self.mesh.mesh)) keys.old }
+        ensures { Filed (file_cells self.entry.grid (files self.entry.sizes) 0 (boxes self.entry.grid.ndim (seen self.entry.mesh.mesh)) []) keys.old cells.old keys.new cells.new }
+    {
+        let n = self.pack_rows(keys);
+        sorting::sort(&mut keys[..n]);
+        unpack(&mut keys[..n], &mut cells[..n]);
+    }
 }
 
 // Writes the numbers of the large cells over the front of the lent list.
-fn list_large(
-    ndim: usize,
-    sizes: Sizes,
-    coords: &[f64],
-    corners: &[u32],
-    ncell: usize,
-    large: &mut [u64],
-)
-    requires fact_1 { Whole ndim (mesh_of coords.now corners.now) }
-    requires fact_2 { ncell ≡ cell_count ndim (mesh_of coords.now corners.now) }
-    requires fact_3 { length (numbered (is_large sizes.limit) 0 (boxes ndim (mesh_of coords.now corners.now))) ≤ length large.old }
-    ensures { large.new ≡ over (numbered (is_large sizes.limit) 0 (boxes ndim (mesh_of coords.now corners.now))) large.old }
+fn list_large(mesh: WholeMesh, apart: Apart, large: &mut [u64])
+    requires { length (numbered (is_large apart.limit) 0 (boxes mesh.mesh.ndim (seen mesh.mesh))) ≤ length large.old }
+    ensures { large.new ≡ over (numbered (is_large apart.limit) 0 (boxes mesh.entry.mesh.ndim (seen mesh.entry.mesh))) large.old }
 {
     let mut n = 0;
-    let mut cell = 0;
-    while cell < ncell {
-        let b = mesh::bounding_box(ndim, coords, corners, cell);
-        n = note_large(sizes, ndim, b, cell, large, n);
-        cell += 1;
+    for cell in 0..mesh.cell_count() {
+        if apart.is_large(Dimension { n: mesh.mesh.ndim }, mesh.bounding_box(cell)) {
+            large[n] = cell as u64;
+            n += 1;
+        }
     }
 }
 
 // Writes the numbers of the large cells that are kept apart over the front of the lent list.
-pub fn write_large(
-    ndim: usize,
-    sizes: Sizes,
-    coords: &[f64],
-    corners: &[u32],
-    ncell: usize,
-    large: &mut [u64],
-)
-    requires fact_1 { Whole ndim (mesh_of coords.now corners.now) }
-    requires fact_2 { ncell ≡ cell_count ndim (mesh_of coords.now corners.now) }
-    requires fact_3 { length (large_of sizes.apart sizes.limit (boxes ndim (mesh_of coords.now corners.now))) ≤ length large.old }
-    ensures { large.new ≡ over (large_of sizes.apart sizes.limit (boxes ndim (mesh_of coords.now corners.now))) large.old }
+#[tactic(auto, unfolding(cell_sizes::specs::Large::large_of, basics::specs::Lists::over))]
+pub fn write_large(mesh: WholeMesh, sizes: Sizes, large: &mut [u64])
+    requires { length (lists sizes (boxes mesh.mesh.ndim (seen mesh.mesh))) ≤ length large.old }
+    ensures { large.new ≡ over (lists sizes (boxes mesh.entry.mesh.ndim (seen mesh.entry.mesh))) large.old }
 {
-    if sizes.apart {
-        list_large(ndim, sizes, coords, corners, ncell, large);
+    if let Some(apart) = sizes.apart {
+        list_large(mesh, apart, large);
     }
 }

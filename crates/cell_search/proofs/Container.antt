@@ -1,31 +1,33 @@
 -- The rows of a container stand together: from the first slot of its key up to the first of the next. And one list of cells after another.
 -- Assumes nothing.
-use Prim.Native.Nat.{ℕ, suc, ◌+◌, ◌≤◌, ◌<◌}
+use Prim.Native.Nat.{ℕ, suc, ◌+◌, ◌-◌, ◌≤◌, ◌<◌, zero-le, suc-le-suc}
 use native.Mathlib.Numerals.{add-one}
 use native.Mathlib.Omega.{arith}
 use mathlib.Core.Path.{◌≡◌, refl, sym, ap, ◌∙◌}
 use mathlib.Core.Logic.{inl, ⊎_elim}
 use mathlib.Core.Bool.{Bool, true, false}
-use mathlib.Core.Option.{Option, none, some}
+use mathlib.Core.Option as math
+use Rattle.std.specs.Prelude.{Option, Some, None, Ok, slice_range}
+use Rattle.std.proofs.lemmas.Slice.{between_is}
 use mathlib.Core.List.{List, [], ◌∷◌, ◌++◌, map}
-use lib.Dec.{eqb, leb}
-use lib.ListN.{length, take, drop}
-use lib.Seq.{slice, take-take}
+use lib.Dec.{eqb, ltb, leb}
+use lib.ListN.{length, get_or, take, drop, length-take, length-drop}
+use lib.Seq.{take-take, get_or-take, get_or-drop}
 use lib.Ieee.{Float}
-use borrow.Author.Tests.{eqb-true, eqb-false, ne_eqb, leb-true, leb-false}
+use borrow.Author.Tests.{ltb-true, lt-ltb, eqb-true, eqb-false, ne_eqb, leb-true, leb-false}
 use Rattle.basics.proofs.Bools.{by_test, clash, and_both}
-use Rattle.basics.specs.Lists.{keep, tab}
+use Rattle.basics.specs.Lists.{keep}
 use Rattle.basics.proofs.Lists.{length-tab, map-tab, map-take, map-drop, tab-take}
 use Rattle.basics.specs.Refusals.{success}
 use Rattle.floats.specs.Rounded.{zero_f}
 use Rattle.mesh.specs.Mesh.{Mesh}
 use Rattle.mesh.specs.Cell.{contains}
-use Rattle.table.specs.Rows.{Slot, slotted, before, chain, sorted, lower, slot_at, slots_of}
+use Rattle.table.specs.Rows.{Slot, slotted, before, chain, sorted, lower, lead, slot_at, slots_of}
+use Rattle.table.specs.Posts.{Ordered}
 use Rattle.table.proofs.Order.{Lex, before_lex, lex_before, chain-sorted, lower-le}
-use Rattle.table.proofs.First.{key-le}
-use Rattle.cell_search.specs.declared.FoundCell.{FoundCell}
-use Rattle.cell_search.specs.Steps.{Own}
-use Rattle.cell_search.specs.declared.FoundCell.TheVariants.{Cell, Nothing, Refused}
+use Rattle.table.proofs.First.{key-le, lead-lower}
+use Rattle.grid_cells.specs.declared.CellId.{CellId}
+use Rattle.cell_index.specs.Steps.{Numbers}
 use Rattle.cell_search.specs.Search.{first_cell, answer_cell, try_cells, CellSearch, found_cell, leaves}
 
 -- ---- the order of slots, by their keys
@@ -108,73 +110,97 @@ module _ (key : ℕ) where
       passed : p.key < key → keep of_key (p ∷ ps) ≡ keep of_key ps
       passed l = pass p ps l
 
+-- rows of a key end at or after their beginning
+pub lead-le : (a b : ℕ) (ks : List ℕ) → a ≤ b → lead a ks ≤ lead b ks
+unfolding lead
+lead-le a b [] h = omega arith
+lead-le a b (k ∷ ks) h =
+    by_test (ltb k a) (λ e. let l = ltb-true k a e in rw (e, lt-ltb k b (omega arith)) (suc-le-suc (lead-le a b ks h))) (λ e. rw e zero-le)
+
 -- the same in the two lists
-pub container_part : (keys cells : List ℕ) (used key : ℕ) {from to : ℕ} → used ≤ length cells → sorted (slots_of keys cells used) ≡ true
-    → from ≡ lower (slotted key 0) (slots_of keys cells used) → to ≡ lower (slotted (key + 1) 0) (slots_of keys cells used)
-    → Own keys cells used key (record { from = from; to = to })
-unfolding slots_of
-container_part keys cells used key {from} {to} h o f t =
-    let rows = tab used (slot_at keys cells) in
-    let id : Slot → ℕ = λ (p : Slot). p.id in
-    let next = slotted (key + 1) 0 in
-    let small : to ≤ used = omega (arith, lower-le next rows, length-tab used (slot_at keys cells)) in
-    let e : keep (λ (p : Slot). eqb p.key key) rows ≡ slice from to rows = keep_part key rows o ∙ rw (f, t, add-one) in
-    record {
-      room = small;
-      are = ap (map id) e ∙ map-drop id from (take to rows) ∙ ap (drop from) (map-take id to rows ∙ ap (take to) (map-tab id used (slot_at keys cells) ∙ tab-take used cells 0 h) ∙ take-take to used cells small);
-    }
+module _ (keys cells : List ℕ) (used key : ℕ) {from to : ℕ} (o : Ordered keys cells used) (f : from ≡ lead key (take used keys)) (t : to ≡ lead (key + 1) (take used keys)) where
+  abbrev rows : List Slot
+  rows = slots_of keys cells used
+
+  lower-from : from ≡ lower (slotted key 0) rows
+  lower-from = f ∙ lead-lower keys cells used key o.in_keys
+
+  lower-to : to ≡ lower (slotted (key + 1) 0) rows
+  lower-to = t ∙ lead-lower keys cells used (key + 1) o.in_keys
+
+  pub part_end : to ≤ used
+  unfolding slots_of
+  part_end = omega (arith, lower-to, lower-le (slotted (key + 1) 0) rows, length-tab used (slot_at keys cells))
+
+  pub part_cells : slice_range cells from to ≡ map (λ (p : Slot). p.id) (keep (λ (p : Slot). eqb p.key key) rows)
+  unfolding slots_of
+  part_cells =
+      let id : Slot → ℕ = λ (p : Slot). p.id in
+      let kept : keep (λ (p : Slot). eqb p.key key) rows ≡ drop from (take to rows) = keep_part key rows o.order ∙ rw (lower-from, lower-to, add-one) in
+      let ids : map id rows ≡ take used cells = map-tab id used (slot_at keys cells) ∙ tab-take used cells 0 o.in_ids in
+      between_is cells from to
+      ∙ ap (drop from) (sym (take-take to used cells part_end) ∙ ap (take to) (sym ids) ∙ sym (map-take id to rows))
+      ∙ sym (map-drop id from (take to rows))
+      ∙ ap (map id) (sym kept)
+
+-- a part of numbers of cells has such
+pub part_numbers : (n : ℕ) (m : Mesh) (cells : List ℕ) (used from to : ℕ) → to ≤ used → Numbers n m (take used cells) → Numbers n m (slice_range cells from to)
+part_numbers n m cells used from to h below i k =
+    let long : i < to - from = omega (arith, rw (length-take, length-drop) at k) in
+    let within : from + i < length cells = omega (arith, rw (length-take, length-drop) at k) in
+    let e : get_or (slice_range cells from to) i 0 ≡ get_or (take used cells) (from + i) 0 = get_or-take (to - from) (drop from cells) i 0 long ∙ get_or-drop from cells i 0 ∙ sym (get_or-take used cells (from + i) 0 (omega arith)) in
+    rw e (below (from + i) (omega (arith, length-take used cells)))
 
 -- ---- one list after another
 
 module _ (p : ℕ → Bool) where
-  first_left : (a b : List ℕ) (c : ℕ) → first_cell p a ≡ some c → first_cell p (a ++ b) ≡ some c
+  first_left : (a b : List ℕ) (c : ℕ) → first_cell p a ≡ math.some c → first_cell p (a ++ b) ≡ math.some c
   unfolding first_cell
-  first_left [] b c e = let z : ◌≡◌ {A = ℕ} 0 1 = cc in absurd (omega arith)
+  first_left [] b c e = absurd (math.some-ne-none c (sym e))
   first_left (i ∷ a) b c e = by_test (p i) (λ f. rw f (rw f at e)) (λ f. rw f (first_left a b c (rw f at e)))
 
-  first-right : (a b : List ℕ) → first_cell p a ≡ none → first_cell p (a ++ b) ≡ first_cell p b
+  first-right : (a b : List ℕ) → first_cell p a ≡ math.none → first_cell p (a ++ b) ≡ first_cell p b
   unfolding first_cell
   first-right [] b e = refl
-  first-right (i ∷ a) b e = by_test (p i) (λ f. absurd (no (rw f at e))) (λ f. rw f (first-right a b (rw f at e)))
-    where
-      no : some i ≡ none → ⊥
-      no f = let z : ◌≡◌ {A = ℕ} 0 1 = cc in omega arith
+  first-right (i ∷ a) b e = by_test (p i) (λ f. absurd (math.some-ne-none i (rw f at e))) (λ f. rw f (first-right a b (rw f at e)))
 
-nothing_is : (q : FoundCell) → found_cell q ≡ success none → q ≡ Nothing
-nothing_is (Cell c) f = let z : ◌≡◌ {A = ℕ} 0 1 = cc in absurd (omega arith)
-nothing_is Nothing f = refl
-nothing_is (Refused k) f = let z : ◌≡◌ {A = ℕ} 0 1 = cc in absurd (omega arith)
+nothing_is : (q : Option CellId) → found_cell (Ok q) ≡ success math.none → q ≡ None
+nothing_is None f = refl
+nothing_is (Some c) f = absurd (never f)
+  where
+    never : success (math.some c.0) ≡ success math.none → ⊥
+    never g = cc
 
-module _ (n : ℕ) (m : Mesh) (zeta x : List Float) (a b : List ℕ) (r : FoundCell) {zeta' : List Float} (e : leaves r zeta' ≡ try_cells n m zeta x a) where
-  by_option : (o : Option ℕ) → first_cell (contains n m zero_f x) a ≡ o → leaves r zeta' ≡ answer_cell n m zeta x o
+module _ (n : ℕ) (m : Mesh) (zeta x : List Float) (a b : List ℕ) (r : Option CellId) {zeta' : List Float} (e : leaves (Ok r) zeta' ≡ try_cells n m zeta x a) where
+  by_option : (o : math.Option ℕ) → first_cell (contains n m zero_f x) a ≡ o → leaves (Ok r) zeta' ≡ answer_cell n m zeta x o
   unfolding try_cells
   by_option o f = e ∙ ap (answer_cell n m zeta x) f
 
-  none-answer : first_cell (contains n m zero_f x) a ≡ none → (found_cell r ≡ success none) × (zeta' ≡ zeta)
+  none-answer : first_cell (contains n m zero_f x) a ≡ math.none → (found_cell (Ok r) ≡ success math.none) × (zeta' ≡ zeta)
   unfolding answer_cell
-  none-answer f = let g = by_option none f in (ap (λ (s : CellSearch). s.answer) g, ap (λ (s : CellSearch). s.zeta) g)
+  none-answer f = let g = by_option math.none f in (ap (λ (s : CellSearch). s.answer) g, ap (λ (s : CellSearch). s.zeta) g)
 
   -- a cell of the first list contains the position
-  pub found_first : (r ≡ Nothing → ⊥) → leaves r zeta' ≡ try_cells n m zeta x (a ++ b)
+  pub found_first : (r ≡ None → ⊥) → leaves (Ok r) zeta' ≡ try_cells n m zeta x (a ++ b)
   unfolding try_cells
   found_first h = go (first_cell (contains n m zero_f x) a) refl
     where
-      go : (o : Option ℕ) → first_cell (contains n m zero_f x) a ≡ o → leaves r zeta' ≡ answer_cell n m zeta x (first_cell (contains n m zero_f x) (a ++ b))
-      go none f = absurd (h (nothing_is r (none-answer f).0))
-      go (some c) f = by_option (some c) f ∙ ap (answer_cell n m zeta x) (sym (first_left (contains n m zero_f x) a b c f))
+      go : (o : math.Option ℕ) → first_cell (contains n m zero_f x) a ≡ o → leaves (Ok r) zeta' ≡ answer_cell n m zeta x (first_cell (contains n m zero_f x) (a ++ b))
+      go math.none f = absurd (h (nothing_is r (none-answer f).0))
+      go (math.some c) f = by_option (math.some c) f ∙ ap (answer_cell n m zeta x) (sym (first_left (contains n m zero_f x) a b c f))
 
   -- none does
-  none_first : r ≡ Nothing → (zeta' ≡ zeta) × (first_cell (contains n m zero_f x) (a ++ b) ≡ first_cell (contains n m zero_f x) b)
+  none_first : r ≡ None → (zeta' ≡ zeta) × (first_cell (contains n m zero_f x) (a ++ b) ≡ first_cell (contains n m zero_f x) b)
   unfolding answer_cell
   none_first h = go (first_cell (contains n m zero_f x) a) refl
     where
-      go : (o : Option ℕ) → first_cell (contains n m zero_f x) a ≡ o → (zeta' ≡ zeta) × (first_cell (contains n m zero_f x) (a ++ b) ≡ first_cell (contains n m zero_f x) b)
-      go none f = ((none-answer f).1, first-right (contains n m zero_f x) a b f)
-      go (some c) f =
-          let g : found_cell Nothing ≡ success (some c) = ap found_cell (sym h) ∙ ap (λ (s : CellSearch). s.answer) (by_option (some c) f) in
-          let z : ◌≡◌ {A = ℕ} 0 1 = cc in
-          absurd (omega arith)
+      never : (c : ℕ) → success math.none ≡ success (math.some c) → ⊥
+      never c f = cc
 
-  pub found-second : r ≡ Nothing → (s : FoundCell) {zeta'' : List Float} → leaves s zeta'' ≡ try_cells n m zeta' x b → leaves s zeta'' ≡ try_cells n m zeta x (a ++ b)
+      go : (o : math.Option ℕ) → first_cell (contains n m zero_f x) a ≡ o → (zeta' ≡ zeta) × (first_cell (contains n m zero_f x) (a ++ b) ≡ first_cell (contains n m zero_f x) b)
+      go math.none f = ((none-answer f).1, first-right (contains n m zero_f x) a b f)
+      go (math.some c) f = absurd (never c (ap (λ (q : Option CellId). found_cell (Ok q)) (sym h) ∙ ap (λ (s : CellSearch). s.answer) (by_option (math.some c) f)))
+
+  pub found-second : r ≡ None → (s : Option CellId) {zeta'' : List Float} → leaves (Ok s) zeta'' ≡ try_cells n m zeta' x b → leaves (Ok s) zeta'' ≡ try_cells n m zeta x (a ++ b)
   unfolding try_cells
   found-second h s g = let d = none_first h in g ∙ rw (d.0, d.1)

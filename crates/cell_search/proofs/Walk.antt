@@ -7,8 +7,8 @@ use mathlib.Core.Path.{◌≡◌, sym, ap, ◌∙◌}
 use mathlib.Core.Bool.{Bool, true, false, not, ◌&&◌, ◌||◌, cond}
 use mathlib.Core.Option.{some}
 use mathlib.Core.List.{List}
-use lib.ListN.{length, get_or, take, drop, drop_of_length-le}
-use lib.Seq.{slice, slice-cons, length-take-le}
+use lib.ListN.{length, get_or, drop, drop_of_length-le}
+use lib.Seq.{drop-cons}
 use lib.Ieee.{Float, lt}
 use Rattle.basics.specs.Lists.{over}
 use Rattle.floats.specs.Rounded.{zero_f}
@@ -21,7 +21,7 @@ use Rattle.grid.specs.Containers.{outside}
 use Rattle.mesh.specs.declared.BoundingBox.{BoundingBox}
 use Rattle.mesh.specs.Mesh.{Mesh, Box, corner_points, box_of, boxed}
 use Rattle.mesh.specs.Cell.{cell_zeta, contains}
-use Rattle.cell_search.specs.declared.FoundCell.TheVariants.{Cell, Nothing}
+use Rattle.std.specs.Prelude.{Some, None, Ok}
 use Rattle.cell_search.specs.Search.{first_cell, answer_cell, try_cells, leaves}
 
 -- ---- the box of a cell, axis by axis
@@ -69,42 +69,40 @@ module _ (n : ℕ) (m : Mesh) (x : Position) (c : ℕ) (b : BoundingBox) (e : bo
 -- ---- one after the other
 
 -- no cell before `at` contains the position, and the list of coordinates is as it was
-pub record Seeking (n : ℕ) (m : Mesh) (x : Position) (cells : List ℕ) (from to : ℕ) (zeta₀ : List Float) (at : ℕ) (zeta : List Float) : Type 0 where
+pub record Seeking (n : ℕ) (m : Mesh) (x : Position) (cells : List ℕ) (zeta₀ : List Float) (at : ℕ) (zeta : List Float) : Type 0 where
   pub kept : zeta ≡ zeta₀
-  pub walk : first_cell (contains n m zero_f (coords n x)) (slice from to cells) ≡ first_cell (contains n m zero_f (coords n x)) (slice at to cells)
+  pub walk : first_cell (contains n m zero_f (coords n x)) cells ≡ first_cell (contains n m zero_f (coords n x)) (drop at cells)
 
-module _ {n : ℕ} {m : Mesh} {x : Position} {cells : List ℕ} {from to : ℕ} {zeta₀ : List Float} {at : ℕ} {zeta : List Float} (w : Seeking n m x cells from to zeta₀ at zeta) (room : to ≤ length cells) where
+module _ {n : ℕ} {m : Mesh} {x : Position} {cells : List ℕ} {zeta₀ : List Float} {at : ℕ} {zeta : List Float} (w : Seeking n m x cells zeta₀ at zeta) where
   abbrev p : ℕ → Bool
   p = contains n m zero_f (coords n x)
 
-  module _ (h : at < to) where
-    step : first_cell p (slice at to cells) ≡ cond (p (get_or cells at 0)) (some (get_or cells at 0)) (first_cell p (slice (at + 1) to cells))
+  module _ (h : at < length cells) where
+    step : first_cell p (drop at cells) ≡ cond (p (get_or cells at 0)) (some (get_or cells at 0)) (first_cell p (drop (at + 1) cells))
     unfolding first_cell
-    step = rw (add-one, slice-cons at to cells 0 h room)
+    step = rw (add-one, drop-cons cells at 0 h)
 
-    passed : p (get_or cells at 0) ≡ false → Seeking n m x cells from to zeta₀ (at + 1) zeta
+    passed : p (get_or cells at 0) ≡ false → Seeking n m x cells zeta₀ (at + 1) zeta
     passed e = record { kept = w.kept; walk = w.walk ∙ step ∙ rw e }
 
     module _ (b : BoundingBox) (e : boxed n b ≡ box_of n m (get_or cells at 0)) where
       -- outside the box
-      pub seek_box : outside_from n b x 0 ≡ true → Seeking n m x cells from to zeta₀ (at + 1) zeta
+      pub seek_box : outside_from n b x 0 ≡ true → Seeking n m x cells zeta₀ (at + 1) zeta
       seek_box o = passed (not_in_box n m x (get_or cells at 0) b e o)
 
       module _ (o : outside_from n b x 0 ≡ false) {z : Zeta} (f : z ≡ cell_zeta n (corner_points n m (get_or cells at 0)) (coords n x)) {r : Bool} (g : r ≡ inside zero_f (zetas (n + 1) z)) where
         -- outside the cell
-        pub seek_coords : r ≡ false → Seeking n m x cells from to zeta₀ (at + 1) zeta
+        pub seek_coords : r ≡ false → Seeking n m x cells zeta₀ (at + 1) zeta
         seek_coords k = passed (by_coords n m x (get_or cells at 0) b e o f g ∙ k)
 
         -- in it
-        pub seek_hit : r ≡ true → {zeta' : List Float} → zeta' ≡ over (zetas (n + 1) z) zeta → leaves (Cell (record { 0 = get_or cells at 0 })) zeta' ≡ try_cells n m zeta₀ (coords n x) (slice from to cells)
+        pub seek_hit : r ≡ true → {zeta' : List Float} → zeta' ≡ over (zetas (n + 1) z) zeta → leaves (Ok (Some (record { 0 = get_or cells at 0 }))) zeta' ≡ try_cells n m zeta₀ (coords n x) cells
         unfolding try_cells answer_cell
         seek_hit k i =
-            let found : first_cell p (slice from to cells) ≡ some (get_or cells at 0) = w.walk ∙ step ∙ rw (by_coords n m x (get_or cells at 0) b e o f g ∙ k) in
+            let found : first_cell p cells ≡ some (get_or cells at 0) = w.walk ∙ step ∙ rw (by_coords n m x (get_or cells at 0) b e o f g ∙ k) in
             rw (found, i, f, w.kept)
 
   -- past the last
-  pub seek_end : to ≤ at → leaves Nothing zeta ≡ try_cells n m zeta₀ (coords n x) (slice from to cells)
+  pub seek_end : length cells ≤ at → leaves (Ok None) zeta ≡ try_cells n m zeta₀ (coords n x) cells
   unfolding try_cells answer_cell first_cell
-  seek_end h =
-      let e : length (take to cells) ≤ at = omega (arith, length-take-le to cells room) in
-      rw (w.walk, drop_of_length-le (take to cells) e, w.kept)
+  seek_end h = rw (w.walk, drop_of_length-le cells h, w.kept)

@@ -1,61 +1,36 @@
-// Module 10: the cell at a position. From `GridCells::search` of gemlab's `mesh/grid_cells.rs`, over plain slices.
+// Module 10: the cell at a position. From `GridCells::search` of gemlab's `mesh/grid_cells.rs`.
 #![tactic(auto)]
 
-ghost use Rattle.std.specs.Prelude.{◌+◌, ◌<◌, ◌≡◌, true, ◌||◌, ◌++◌, length};
-ghost use Rattle.std.proofs.Math.Seq.{slice};
+ghost use Rattle.std.specs.Prelude.{◌+◌, ◌<◌, ◌≡◌, ◌||◌, ◌++◌, map, eqb, length, Ok};
 ghost use Rattle.std.specs.Float.Ieee.{lt};
-ghost use Rattle.basics.specs.Lists.{over};
+ghost use Rattle.basics.specs.Lists.{keep, over};
 ghost use Rattle.basics.specs.Refusals.{fault, answer};
-ghost use Rattle.geometry.specs.Position.{coords as axes, axis_of, dimension};
+ghost use Rattle.geometry.specs.Position.{coords as axes, axis_of};
 ghost use Rattle.geometry.specs.Cells.{zetas as listed};
-ghost use Rattle.mesh.specs.Mesh.{mesh_of, Whole};
-ghost use Rattle.table.specs.Posts.{Ordered};
+ghost use Rattle.mesh.specs.Mesh.{mesh_of, seen};
+ghost use Rattle.table.specs.Rows.{Slot};
 ghost use Rattle.cell_rows.specs.Filing.{cell_key};
-ghost use Rattle.cell_rows.specs.Steps.{Keyed};
 ghost use Rattle.grid_cells.specs.Build.{containers_of, index_lists};
-ghost use Rattle.cell_index.specs.Steps.{Numbers, Usable};
+ghost use Rattle.grid_cells.specs.Lent.{lent};
+ghost use Rattle.cell_index.specs.Index.{cell_rows};
+ghost use Rattle.cell_index.specs.Steps.{Numbers};
 ghost use Rattle.cell_search.specs.Search.{asked_tests, candidates, try_cells, cell_search, leaves};
-ghost use Rattle.cell_search.specs.Steps.{asked, Own};
+ghost use Rattle.cell_search.specs.Steps.{asked};
 
-use geometry::{Position, Zeta};
-use grid::{ContainerKey, Located};
-use grid_cells::{CellId, GridCells};
-use mesh::BoundingBox;
-
-// What a cell search answers.
-#[derive(Clone, Copy)]
-pub enum FoundCell {
-    Cell(CellId),
-    Nothing,
-    Refused(u64),
-}
-
-// The container to look into, or why there is none.
-#[derive(Clone, Copy)]
-enum Asked {
-    In(ContainerKey),
-    Refused(u64),
-}
-
-// The entries of a list from one index up to another.
-#[derive(Clone, Copy)]
-struct Span {
-    from: usize,
-    to: usize,
-}
+use basics::Refusal;
+use cell_index::SoundIndex;
+use geometry::{Dimension, Position, Zeta};
+use grid::ContainerKey;
+use grid_cells::{CellId, GridCells, IndexLists};
+use mesh::{BoundingBox, Mesh, WholeMesh};
 
 // Writes the coordinates of a position in a cell to the lent list: in 2D the fourth entry stays.
-fn write_zeta(ndim: usize, z: Zeta, zeta: &mut [f64])
-    requires fact_1 { dimension ndim ≡ true }
-    requires fact_2 { length zeta.old ≡ 4 }
-    ensures { zeta.new ≡ over (listed (ndim + 1) z) zeta.old }
+fn write_zeta(ndim: Dimension, z: Zeta, zeta: &mut [f64])
+    requires { length zeta.old ≡ 4 }
+    ensures { zeta.new ≡ over (listed (ndim.n + 1) z) zeta.old }
 {
     let all = [z.0, z.1, z.2, z.3];
-    let mut i = 0;
-    while i <= ndim {
-        zeta[i] = all[i];
-        i += 1;
-    }
+    zeta[..ndim.n + 1].copy_from_slice(&all[..ndim.n + 1]);
 }
 
 // Whether a position is outside a bounding box on an axis.
@@ -66,128 +41,113 @@ fn is_beyond(b: BoundingBox, x: Position, i: usize) -> bool
     xi < b.low.axis(i) || xi > b.high.axis(i)
 }
 
-// The first of cells[from..to] that contains a position, with its coordinates in the lent list.
-fn find_cell(
-    ndim: usize,
-    coords: &[f64],
-    corners: &[u32],
-    cells: &[u64],
-    from: usize,
-    to: usize,
-    x: Position,
-    zeta: &mut [f64],
-) -> FoundCell
-    requires fact_1 { Whole ndim (mesh_of coords.now corners.now) }
-    requires fact_2 { Numbers ndim (mesh_of coords.now corners.now) to cells.now }
-    requires fact_3 { length zeta.old ≡ 4 }
-    ensures { leaves result zeta.new ≡ try_cells ndim (mesh_of coords.now corners.now) zeta.old (axes ndim x) (slice from to cells.now) }
+// The first of these cells that contains a position, with its coordinates in the lent list.
+fn find_cell(mesh: WholeMesh, cells: &[u64], x: Position, zeta: &mut [f64]) -> Option<CellId>
+    requires cells { Numbers mesh.mesh.ndim (seen mesh.mesh) cells.now }
+    requires room { length zeta.old ≡ 4 }
+    ensures { leaves (Ok result) zeta.new ≡ try_cells mesh.entry.mesh.ndim (seen mesh.entry.mesh) zeta.old (axes mesh.entry.mesh.ndim x) cells.now }
 {
-    'outer: for at in from..to {
-        let cell_id = cells[at];
-        let cell = cell_id as usize;
-        let b = mesh::bounding_box(ndim, coords, corners, cell);
-        for i in 0..ndim {
+    let ndim = Dimension { n: mesh.mesh.ndim };
+    'outer: for cell_id in cells {
+        let cell = *cell_id as usize;
+        let b = mesh.bounding_box(cell);
+        for i in 0..ndim.n {
             if is_beyond(b, x, i) {
                 continue 'outer; // outside the bounding box
             }
         }
-        let z = mesh::cell_coords(ndim, coords, corners, cell, x);
+        let z = mesh.cell_coords(cell, x);
         if mesh::in_cell(ndim, z) {
             write_zeta(ndim, z, zeta);
-            return FoundCell::Cell(CellId(cell_id));
+            return Some(CellId(*cell_id));
         }
     }
-    FoundCell::Nothing
+    None // none contains the position
 }
 
 // The first of two lists' cells that contains a position: those of the second list are tried after those of the first.
 fn find_either(
-    ndim: usize,
-    coords: &[f64],
-    corners: &[u32],
+    mesh: WholeMesh,
     first: &[u64],
-    a: Span,
     second: &[u64],
-    b: Span,
     x: Position,
     zeta: &mut [f64],
-) -> FoundCell
-    requires fact_1 { Whole ndim (mesh_of coords.now corners.now) }
-    requires fact_2 { Numbers ndim (mesh_of coords.now corners.now) a.to first.now }
-    requires fact_3 { Numbers ndim (mesh_of coords.now corners.now) b.to second.now }
-    requires fact_4 { length zeta.old ≡ 4 }
-    ensures { leaves result zeta.new ≡ try_cells ndim (mesh_of coords.now corners.now) zeta.old (axes ndim x) (slice a.from a.to first.now ++ slice b.from b.to second.now) }
+) -> Option<CellId>
+    requires first { Numbers mesh.mesh.ndim (seen mesh.mesh) first.now }
+    requires second { Numbers mesh.mesh.ndim (seen mesh.mesh) second.now }
+    requires room { length zeta.old ≡ 4 }
+    ensures { leaves (Ok result) zeta.new ≡ try_cells mesh.entry.mesh.ndim (seen mesh.entry.mesh) zeta.old (axes mesh.entry.mesh.ndim x) (first.now ++ second.now) }
 {
-    let found = find_cell(ndim, coords, corners, first, a.from, a.to, x, zeta);
-    let FoundCell::Nothing = found else {
-        return found;
-    };
-    find_cell(ndim, coords, corners, second, b.from, b.to, x, zeta)
+    let found = find_cell(mesh, first, x, zeta);
+    match found {
+        Some(_) => found,
+        None => find_cell(mesh, second, x, zeta),
+    }
 }
 
-// The rows of a container: they stand together.
-fn container_rows(keys: &[u64], cells: &[u64], used: usize, key: u64) -> Span
-    requires fact_1 { Ordered keys.now cells.now used }
-    requires fact_2 { key < 1073741824 }
-    ensures { Own keys.now cells.now used key result }
+// The cells of a container's rows: they stand together.
+fn own_cells<'c>(index: SoundIndex<'_, '_, 'c>, key: ContainerKey) -> &'c [u64]
+    requires { key.0 < 1073741824 }
+    ensures cells { result.now ≡ map (λ (p : Slot). p.id) (keep (λ (p : Slot). eqb p.key key.0) (cell_rows index.entry.grid (lent index.entry.lists))) }
+    ensures numbers { Numbers index.entry.grid.ndim (seen index.entry.mesh.mesh) result.now }
 {
-    Span {
-        from: table::first_of(keys, used, key),
-        to: table::first_of(keys, used, key + 1),
-    }
+    let keys = &index.lists.keys[..index.grid.used];
+    let from = table::first_of(keys, key.0);
+    let to = table::first_of(keys, key.0 + 1);
+    &index.lists.cells[from..to]
 }
 
 // The first large cell that contains a position, and else the first of its container's.
-fn find(
-    grid: GridCells,
-    coords: &[f64],
-    corners: &[u32],
-    keys: &[u64],
-    cells: &[u64],
-    large: &[u64],
-    key: u64,
-    x: Position,
-    zeta: &mut [f64],
-) -> FoundCell
-    requires fact_1 { Usable grid (mesh_of coords.now corners.now) (index_lists keys.now cells.now large.now) }
-    requires fact_2 { (key < 1073741824) × (length zeta.old ≡ 4) }
-    ensures { leaves result zeta.new ≡ try_cells grid.ndim (mesh_of coords.now corners.now) zeta.old (axes grid.ndim x) (candidates grid (index_lists keys.now cells.now large.now) key) }
+fn find(index: SoundIndex, key: ContainerKey, x: Position, zeta: &mut [f64]) -> Option<CellId>
+    requires key { key.0 < 1073741824 }
+    requires room { length zeta.old ≡ 4 }
+    ensures { leaves (Ok result) zeta.new
+        ≡ try_cells index.entry.grid.ndim (seen index.entry.mesh.mesh) zeta.old (axes index.entry.grid.ndim x) (candidates index.entry.grid (lent index.entry.lists) key.0) }
 {
-    let ndim = grid.ndim;
-    let all = Span {
-        from: 0,
-        to: grid.large,
-    };
-    let own = container_rows(keys, cells, grid.used, key);
-    find_either(ndim, coords, corners, large, all, cells, own, x, zeta)
+    let large = &index.lists.large[..index.grid.large];
+    let own = own_cells(index, key);
+    find_either(index.mesh, large, own, x, zeta)
 }
 
 // The container of a position, or the refusal 25, 2, 3, 11 or 17.
-fn locate(grid: GridCells, coords: &[f64], nzeta: usize, x: &[f64]) -> Asked
-    requires { Keyed (containers_of grid) }
-    ensures { asked result ≡ answer (fault (asked_tests grid coords.now nzeta x.now)) (cell_key (containers_of grid) x.now) }
+fn locate(index: SoundIndex, nzeta: usize, x: &[f64]) -> Result<ContainerKey, Refusal>
+    ensures { asked result ≡ answer (fault (asked_tests index.entry.grid index.entry.mesh.mesh.coords.now nzeta x.now)) (cell_key (containers_of index.entry.grid) x.now) }
 {
+    let grid = index.grid;
     if nzeta != 4 {
-        return Asked::Refused(25);
+        return Err(Refusal::Coordinates);
     }
     if x.len() != grid.ndim {
-        return Asked::Refused(2);
+        return Err(Refusal::Length);
     }
-    if !(geometry::all_coordinates(x) & geometry::all_coordinates(coords)) {
-        return Asked::Refused(3);
+    if !(geometry::all_coordinates(x) & geometry::all_coordinates(index.mesh.mesh.coords)) {
+        return Err(Refusal::Limit);
     }
     let at = Position::new(x);
-    if grid::is_outside(grid.ndim, grid.xmin, grid.xmax, at) {
-        return Asked::Refused(11);
+    if grid::is_outside(Dimension { n: grid.ndim }, grid.xmin, grid.xmax, at) {
+        return Err(Refusal::Outside);
     }
-    let Located::Key(key) = cell_rows::container(grid.containers(), at) else {
-        return Asked::Refused(17);
-    };
-    Asked::In(key)
+    grid.containers().container(at).ok_or(Refusal::Ratio)
 }
 
 // The cell at a position, with the position's coordinates in it, or nothing, or the refusal. Large cells are tried first,
 // ascending, then those of the position's container, ascending. Nothing and a refusal leave the list of coordinates as it is.
+// The dimension is the index's; the mesh's is not read.
+pub fn search_mesh(
+    mesh: Mesh,
+    grid: GridCells,
+    lists: IndexLists,
+    x: &[f64],
+    zeta: &mut [f64],
+) -> Result<Option<CellId>, Refusal>
+    ensures { leaves result zeta.new ≡ cell_search grid (seen mesh.entry) (lent lists.entry) zeta.old x.now }
+{
+    let index = SoundIndex::new(grid, mesh, lists)?;
+    let key = locate(index, zeta.len(), x)?;
+    Ok(find(index, key, Position::new(x), zeta))
+}
+
+// The same over plain slices.
 pub fn search(
     grid: GridCells,
     coords: &[f64],
@@ -197,28 +157,13 @@ pub fn search(
     large: &[u64],
     x: &[f64],
     zeta: &mut [f64],
-) -> FoundCell
+) -> Result<Option<CellId>, Refusal>
     ensures { leaves result zeta.new ≡ cell_search grid (mesh_of coords.now corners.now) (index_lists keys.now cells.now large.now) zeta.old x.now }
 {
-    let refused = cell_index::refused(grid, coords, corners, keys, cells, large);
-    if refused != 0 {
-        return FoundCell::Refused(refused);
-    }
-    let at = locate(grid, coords, zeta.len(), x);
-    match at {
-        Asked::In(key) => {
-            find(
-                grid,
-                coords,
-                corners,
-                keys,
-                cells,
-                large,
-                key.0,
-                Position::new(x),
-                zeta,
-            )
-        }
-        Asked::Refused(n) => FoundCell::Refused(n),
-    }
+    let mesh = Mesh {
+        ndim: grid.ndim,
+        coords,
+        corners,
+    };
+    search_mesh(mesh, grid, IndexLists { keys, cells, large }, x, zeta)
 }

@@ -1,15 +1,14 @@
 -- The walks that measure: the extent of the boxes passed, and the count of large ones among them.
 -- Assumes nothing.
-use Prim.Native.Nat.{ℕ, zero, suc, ◌+◌, ◌≤◌, ◌<◌}
+use Prim.Native.Nat.{ℕ, suc, ◌+◌, ◌≤◌, ◌<◌}
 use native.Mathlib.Numerals.{add-one}
 use native.Mathlib.Omega.{arith}
-use mathlib.Core.Path.{◌≡◌, refl, sym, ap, ◌∙◌, subst}
-use mathlib.Core.Bool.{Bool, true, false, cond, not}
+use mathlib.Core.Path.{◌≡◌, refl, sym, ap, ◌∙◌}
+use mathlib.Core.Bool.{Bool, true, false, cond, not, false≢true}
 use mathlib.Core.List.{List, [], ◌∷◌, map}
-use lib.Dec.{eqb}
 use lib.ListN.{length, drop}
 use lib.Ieee.{Float, le}
-use borrow.Author.Tests.{eqb-true, eqb-false}
+use Rattle.std.specs.Prelude.{Option, Some, None, unwrap_or}
 use Rattle.basics.proofs.Bools.{by_test}
 use Rattle.basics.specs.Lists.{keep, zip_with, fold_from}
 use Rattle.floats.specs.Rounded.{◌⊗◌, ◌⊘◌, of_nat, zero_f}
@@ -22,7 +21,7 @@ use Rattle.cell_sizes.specs.declared.Settings.{Settings}
 use Rattle.cell_sizes.specs.declared.Extent.{Extent}
 use Rattle.cell_sizes.specs.declared.Census.{Census}
 use Rattle.cell_sizes.specs.Large.{boxes, longest_of, is_large, numbered, large_of, measure}
-use Rattle.cell_sizes.specs.Steps.{Widened, Around, counted, Counted, Sized}
+use Rattle.cell_sizes.specs.Steps.{Widened, Around, longer, counted, Counted, Sized}
 use Rattle.cell_sizes.proofs.Boxes.{length-boxes, boxes-next, boxes_end}
 
 -- ---- the extent
@@ -64,43 +63,33 @@ module _ (n : ℕ) (m : Mesh) where
 
 -- ---- the census
 
--- a large cell by its length
-pub large_by : (limit l : Float) (b : Box) {t : Bool} → l ≡ longest_side b → le limit l ≡ t → is_large limit b ≡ t
-unfolding is_large
-large_by limit l b {t} e h = subst (λ (x : Float). le limit x ≡ t) e h
-
 -- the largest of those passed, if there are any, and of the rest
-unfoldable pub after : ℕ → Float → List Float → Float
-after zero v xs = largest xs
-after (suc k) v xs = fold_from max_of v xs
+unfoldable pub after : Option Float → List Float → Float
+after None xs = largest xs
+after (Some v) xs = fold_from max_of v xs
 
 abbrev pub is_small : Float → Box → Bool
 is_small limit b = not (is_large limit b)
 
 pub record Seen (n : ℕ) (m : Mesh) (limit : Float) (c : ℕ) (s : Census) : Type 0 where
-  pub all : s.large + s.small ≡ c
+  pub few : s.large ≤ c
   pub large : length (numbered (is_large limit) 0 (boxes n m)) ≡ s.large + length (numbered (is_large limit) c (drop c (boxes n m)))
-  pub none : s.small ≡ 0 → s.longest ≡ zero_f
-  pub longest : longest_of (keep (is_small limit) (boxes n m)) ≡ after s.small s.longest (map longest_side (keep (is_small limit) (drop c (boxes n m))))
+  pub longest : longest_of (keep (is_small limit) (boxes n m)) ≡ after s.longest (map longest_side (keep (is_small limit) (drop c (boxes n m))))
 
-first : {k : ℕ} (v x : Float) (xs : List Float) → k ≡ 0 → after k v (x ∷ xs) ≡ after 1 x xs
-unfolding after largest
-first v x xs e = rw e
-
-further : (k : ℕ) (v x : Float) (xs : List Float) → (k ≡ 0 → ⊥) → after k v (x ∷ xs) ≡ after (k + 1) (max_of v x) xs
-unfolding after fold_from
-further zero v x xs h = absurd (h refl)
-further (suc k) v x xs h = rw add-one
-
-last : (k : ℕ) (v : Float) → (k ≡ 0 → v ≡ zero_f) → after k v [] ≡ v
+further : (v : Option Float) (x : Float) (xs : List Float) → after v (x ∷ xs) ≡ after (Some (longer v x)) xs
 unfolding after largest fold_from
-last zero v h = sym (h refl)
-last (suc k) v h = refl
+further None x xs = refl
+further (Some v) x xs = refl
+
+last : (v : Option Float) → after v [] ≡ unwrap_or v zero_f
+unfolding after largest fold_from
+last None = refl
+last (Some v) = refl
 
 module _ (n : ℕ) (m : Mesh) (limit : Float) where
-  pub census_start : Seen n m limit 0 (record { large = 0; small = 0; longest = zero_f })
+  pub census_start : Seen n m limit 0 (record { large = 0; longest = None })
   unfolding after longest_of
-  census_start = record { all = refl; large = omega arith; none = λ e. refl; longest = refl }
+  census_start = record { few = omega arith; large = omega arith; longest = refl }
 
   module _ (c : ℕ) (s : Census) (b : Box) (rest : List Box) (k : Seen n m limit c s) (g : drop c (boxes n m) ≡ b ∷ rest) where
     next-large : is_large limit b ≡ true → length (numbered (is_large limit) 0 (boxes n m)) ≡ s.large + 1 + length (numbered (is_large limit) (c + 1) rest)
@@ -111,50 +100,33 @@ module _ (n : ℕ) (m : Mesh) (limit : Float) where
     unfolding numbered
     next-same e = k.large ∙ rw (g, e, add-one c)
 
-    next_passed : is_large limit b ≡ true → longest_of (keep (is_small limit) (boxes n m)) ≡ after s.small s.longest (map longest_side (keep (is_small limit) rest))
+    next_passed : is_large limit b ≡ true → longest_of (keep (is_small limit) (boxes n m)) ≡ after s.longest (map longest_side (keep (is_small limit) rest))
     unfolding keep
     next_passed e = k.longest ∙ rw (g, e)
 
-    next_kept : is_large limit b ≡ false → longest_of (keep (is_small limit) (boxes n m)) ≡ after s.small s.longest (longest_side b ∷ map longest_side (keep (is_small limit) rest))
+    next_kept : is_large limit b ≡ false → longest_of (keep (is_small limit) (boxes n m)) ≡ after s.longest (longest_side b ∷ map longest_side (keep (is_small limit) rest))
     unfolding keep
     next_kept e = k.longest ∙ rw (g, e)
 
-    when_large : is_large limit b ≡ true → counted limit s b ≡ record { large = s.large + 1; small = s.small; longest = s.longest }
+    when_large : is_large limit b ≡ true → counted limit s b ≡ record { large = s.large + 1; longest = s.longest }
     unfolding counted
     when_large e = rw e
 
-    when_first : is_large limit b ≡ false → eqb s.small 0 ≡ true → counted limit s b ≡ record { large = s.large; small = 1; longest = longest_side b }
+    when_small : is_large limit b ≡ false → counted limit s b ≡ record { large = s.large; longest = Some (longer s.longest (longest_side b)) }
     unfolding counted
-    when_first e f = rw (e, f)
-
-    when_next : is_large limit b ≡ false → eqb s.small 0 ≡ false → counted limit s b ≡ record { large = s.large; small = s.small + 1; longest = max_of s.longest (longest_side b) }
-    unfolding counted
-    when_next e f = rw (e, f)
+    when_small e = rw e
 
     step : rest ≡ drop (c + 1) (boxes n m) → Seen n m limit (c + 1) (counted limit s b)
     step f =
         by_test (is_large limit b)
+        (λ e. rw (when_large e) (record { few = omega (arith, k.few); large = rw (← f) (next-large e); longest = rw (← f) (next_passed e) }))
         (λ e.
-        rw (when_large e)
-        (record { all = omega (arith, k.all); large = rw (← f) (next-large e); none = k.none; longest = rw (← f) (next_passed e) }))
-        (λ e.
-        by_test (eqb s.small 0)
-        (λ z.
-        rw (when_first e z)
+        rw (when_small e)
         (record {
-          all = omega (arith, k.all, eqb-true s.small 0 z);
+          few = omega (arith, k.few);
           large = rw (← f) (next-same e);
-          none = λ o. absurd (omega arith);
-          longest = rw (← f) (next_kept e ∙ first s.longest (longest_side b) (map longest_side (keep (is_small limit) rest)) (eqb-true s.small 0 z));
+          longest = rw (← f) (next_kept e ∙ further s.longest (longest_side b) (map longest_side (keep (is_small limit) rest)));
         }))
-        (λ z.
-        rw (when_next e z)
-        (record {
-          all = omega (arith, k.all);
-          large = rw (← f) (next-same e);
-          none = λ o. absurd (omega arith);
-          longest = rw (← f) (next_kept e ∙ further s.small s.longest (longest_side b) (map longest_side (keep (is_small limit) rest)) (eqb-false s.small 0 z));
-        })))
 
   pub census_next : (c : ℕ) (s r : Census) (b : Box) → c < cell_count n m → Seen n m limit c s → b ≡ box_of n m c → r ≡ counted limit s b → Seen n m limit (c + 1) r
   census_next c s r b h k e f = rw f (step c s b (drop (c + 1) (boxes n m)) k (rw e (boxes-next n m c h)) refl)
@@ -163,7 +135,7 @@ module _ (n : ℕ) (m : Mesh) (limit : Float) where
   unfolding numbered keep
   census_end c s h k = record {
     large = sym (k.large ∙ rw (boxes_end n m c h) (omega arith));
-    longest = sym (k.longest ∙ rw (boxes_end n m c h) (last s.small s.longest k.none));
+    longest = sym (k.longest ∙ rw (boxes_end n m c h) (last s.longest));
   }
 
 -- ---- both together
@@ -193,25 +165,25 @@ module _ (n : ℕ) (m : Mesh) (t : Settings) where
     same_part : le p t.large_pct ≡ (measure n m t).apart
     same_part = rw (measured-apart, ← same-limit, q, s.large, k, ← length-boxes n m)
 
-    pub sized_apart : le p t.large_pct ≡ true → Sized n m t (record { limits = e.limits; limit = limit; apart = true; large = f.large; longest = f.longest })
+    pub sized_apart : le p t.large_pct ≡ true → Sized n m t (record { limits = e.limits; apart = Some (record { limit = limit; count = f.large }); longest = unwrap_or f.longest zero_f })
     sized_apart h =
         let z : (measure n m t).apart ≡ true = sym same_part ∙ h in
         record {
           low = a.low;
           high = a.high;
-          limit = same-limit;
+          limit = λ _. same-limit;
           apart = sym z;
           large = s.large ∙ rw (measured-large, z, ← same-limit);
           longest = s.longest ∙ rw (measured-longest, z, ← same-limit);
         }
 
-    pub sized_filed : le p t.large_pct ≡ false → Sized n m t (record { limits = e.limits; limit = limit; apart = false; large = 0; longest = e.largest })
+    pub sized_filed : le p t.large_pct ≡ false → Sized n m t (record { limits = e.limits; apart = None; longest = e.largest })
     sized_filed h =
         let z : (measure n m t).apart ≡ false = sym same_part ∙ h in
         record {
           low = a.low;
           high = a.high;
-          limit = same-limit;
+          limit = λ f. absurd (false≢true f);
           apart = sym z;
           large = rw (measured-large, z);
           longest = a.largest ∙ rw (measured-longest, z);

@@ -2,69 +2,70 @@
 -- Assumes nothing.
 use Prim.Native.Nat.{ℕ, suc, ◌+◌, ◌-◌, ◌*◌, ◌^◌, ◌≤◌, ◌<◌}
 use native.Mathlib.Numerals.{add-one}
-use native.Mathlib.Nat.{mul-le-mul, pow-le-pow_right}
+use native.Mathlib.Nat.{mul-le-mul, mul-one, pow-le-pow_right}
 use native.Mathlib.Omega.{arith}
 use mathlib.Core.Path.{◌≡◌, refl, sym, ap, ◌∙◌}
-use mathlib.Core.Bool.{Bool, true, false, cond, ◌&&◌, ◌||◌}
+use mathlib.Core.Bool.{Bool, true, false, cond, ◌&&◌, ◌||◌, and-true}
 use mathlib.Core.Option.{none, some}
 use mathlib.Core.List.{List, [], ◌∷◌}
 use mathlib.Core.Logic.{◌⊎◌, inl, inr, ⊎_elim}
-use lib.Dec.{leb, ltb, eqb}
+use lib.Dec.{leb, ltb, eqb, lit≤}
+use lib.Pointwise.{pointwise}
+use lib.IntN.{ℤ, nat_abs}
+use mir.Syntax.{w64}
+use mir.Val.{to_z, of_z}
+use Rattle.millimetres.proofs.Signed.{size-signed, read_back}
+use Rattle.std.specs.List.{position}
+use Rattle.std.specs.Bool.{then_some}
+use Rattle.std.proofs.Common.{Some, None}
 use lib.ListN.{length, get_or, take, drop, length-drop}
 use lib.Seq.{take_all}
-use mir.Val.{bool_byte}
 use borrow.Author.Tests.{leb-true, eqb-true, ltb-true, ltb-false}
 use Rattle.basics.specs.Lists.{leading}
 use Rattle.basics.proofs.Bools.{by_test, clash, and_both, or_either}
 use Rattle.text.specs.Text.{number_of, number_from}
 use Rattle.lines.specs.Pieces.{split}
-use Rattle.lines.proofs.Pieces.{leading-most, split-some, split-first, split-none, split-whole}
+use Rattle.lines.proofs.Pieces.{leading_found, leading_unfound, leading-most, split-some, split-first, split-none, split-whole}
 use Rattle.millimetres.specs.Millimetres.{limit, signed}
-use Rattle.decimals.specs.Decimals.{digits, has_minus, parts_of, thousandths, good_parts, is_coordinate, millimetres, millimetres_in}
-use Rattle.decimals.specs.Posts.{digits_in, decimals_in, thousandths_in}
-use Rattle.decimals.proofs.Digits.{told, untold, digits-without, digits_are, digits-below, digits-told}
+use Rattle.decimals.specs.Decimals.{digits, has_minus, parts_of, thousandths, good_parts, is_coordinate, millimetres, millimetres_in, number_read}
+use Rattle.decimals.specs.Posts.{digits_in, decimals_in, thousandths_in, IsCut}
+use Rattle.decimals.proofs.Digits.{told, untold, digits-without, digits_are, digits-below, digits-told, digits_untold}
 
 -- what is lent of a field from a place on: all that stands there
 pub rest-whole : (field : List ℕ) (at : ℕ) → take (length field - at) (drop at field) ≡ drop at field
 rest-whole field at = take_all (length field - at) (drop at field) (omega (arith, length-drop at field))
 
--- ---- the minus
-
-pub minus_none : (field : List ℕ) → length field ≡ 0 → has_minus field ≡ false
-unfolding has_minus
-minus_none [] h = refl
-minus_none (x ∷ field) h = absurd (omega arith)
-
-pub minus_within : (field : List ℕ) (b : Bool) → b ≡ has_minus field → bool_byte b ≤ length field
-minus_within [] true e = clash (sym e) (minus_none [] refl)
-minus_within (x ∷ field) true e = omega arith
-minus_within field false e = omega arith
-
-pub minus_rest : (field : List ℕ) (b : Bool) → b ≡ has_minus field → parts_of field ≡ split 46 (drop (bool_byte b) field)
-unfolding parts_of
-minus_rest field true e = rw (sym e)
-minus_rest field false e = rw (sym e)
-
 -- ---- the decimals
 
 module _ (field : List ℕ) where
   pub decimals_bad : none ≡ digits_in 3 field → none ≡ decimals_in field
-  unfolding digits_in decimals_in
-  decimals_bad e = rw (untold (digits 3 field) (number_of field) e)
+  unfolding decimals_in
+  decimals_bad e = rw (digits_untold 3 field (lit≤ tt) e)
 
   pub decimals_good : (n u : ℕ) → some n ≡ digits_in 3 field → 10 ^ (3 - length field) ≡ u → some (n * u) ≡ decimals_in field
   unfolding decimals_in
   decimals_good n u e p = let d = digits-told 3 field e in rw (d.0, d.1, p)
 
-  pub decimals_told : {n : ℕ} → some n ≡ decimals_in field → (digits 3 field ≡ true) × (n ≡ number_of field * 10 ^ (3 - length field))
+  -- three digits
+  pub decimals_three : (n : ℕ) → some n ≡ digits_in 3 field → (length field ≡ 1 → ⊥) → (length field ≡ 2 → ⊥) → some n ≡ decimals_in field
+  decimals_three n e f g =
+      let d = digits_are 3 field (digits-told 3 field e).0 in
+      let three : length field ≡ 3 = omega (arith, d.some, d.most) in
+      ap some (sym (mul-one n)) ∙ decimals_good n 1 e (rw three)
+
+  -- they fit
+  pub digits_small : (k n : ℕ) → some n ≡ digits_in k field → n < 10 ^ k
+  digits_small k n e = let d = digits-told k field e in rw d.1 (digits-below k field d.0)
+
+  decimals_told : {n : ℕ} → some n ≡ decimals_in field → (digits 3 field ≡ true) × (n ≡ number_of field * 10 ^ (3 - length field))
   unfolding decimals_in
   decimals_told e = told (digits 3 field) (number_of field * 10 ^ (3 - length field)) e
 
-  pub decimals_untold : none ≡ decimals_in field → digits 3 field ≡ false
+  decimals_untold : none ≡ decimals_in field → digits 3 field ≡ false
   unfolding decimals_in
   decimals_untold e = untold (digits 3 field) (number_of field * 10 ^ (3 - length field)) e
 
-  pub decimals_below : {n : ℕ} → some n ≡ decimals_in field → n ≤ 1000 * 1000
+  decimals_below : {n : ℕ} → some n ≡ decimals_in field → n ≤ 1000000
   decimals_below e =
       let d = decimals_told e in
       rw d.1 (mul-le-mul {n₁ = number_of field} {m₁ = 10 ^ (3 - length field)} {n₂ = 1000} {m₂ = 1000}
@@ -96,10 +97,6 @@ good-are parts e =
 
 -- ---- the thousandths
 
-one_part : (front : List ℕ) → thousandths (front ∷ []) ≡ number_of front * 1000
-unfolding thousandths number_of number_from
-one_part front = omega arith
-
 -- digits hold no point
 after_point : (back : List ℕ) → digits 3 back ≡ true → split 46 back ≡ back ∷ []
 after_point back e = split-whole 46 back (digits-without 46 back refl (digits_are 3 back e).each)
@@ -120,13 +117,8 @@ no_decimals front back e g =
     clash (rw (split-none 46 back (omega (arith, leading-most 46 back))) at h.1) e))
     g.count
 
-two_parts : (front back : List ℕ) (n m : ℕ) → digits 7 front ≡ true → n ≡ number_of front → digits 3 back ≡ true → m ≡ number_of back * 10 ^ (3 - length back)
-    → cond (leb (n * 1000 + m) limit) (some (n * 1000 + m)) none ≡ cond (good_parts (front ∷ back ∷ [])) (some (thousandths (front ∷ back ∷ []))) none
-unfolding good_parts thousandths
-two_parts front back n m d e f g = rw (d, f, e, g)
-
 module _ (field : List ℕ) where
-  bad : (Good (split 46 field) → ⊥) → none ≡ thousandths_in field
+  bad : (Good (split 46 field) → ⊥) → thousandths_in field ≡ none
   unfolding thousandths_in
   bad f = by_test (good_parts (split 46 field)) (λ e. absurd (f (good-are (split 46 field) e))) (λ e. rw e)
 
@@ -138,57 +130,77 @@ module _ (field : List ℕ) where
   unfolding thousandths_in
   thousandths_untold e = untold (good_parts (split 46 field)) (thousandths (split 46 field)) e
 
-  -- where the first point stands: all bytes lie before it where there is none
-  module _ (point : ℕ) (at : point ≡ leading 46 field) where
-    pub front-first : get_or (split 46 field) 0 [] ≡ take point field
-    front-first =
-        rw at
-        (by_test (ltb (leading 46 field) (length field))
-        (λ e. rw (split-first 46 field (ltb-true (leading 46 field) (length field) e)))
-        (λ e.
-        let l : length field ≤ leading 46 field = ltb-false (leading 46 field) (length field) e in
-        rw (split-none 46 field (omega (arith, leading-most 46 field)), take_all (leading 46 field) field l)))
+  -- no point
+  pub cut_nowhere : None ≡ position (λ b. eqb b 46) field → IsCut field field 0
+  unfolding thousandths_in good_parts thousandths number_of number_from
+  cut_nowhere e = record { below = omega arith; rest = rw (split-none 46 field (leading_unfound 46 field e)) }
 
-    pub front-bad : digits 7 (take point field) ≡ false → none ≡ thousandths_in field
-    front-bad e = bad (λ g. clash (rw front-first at g.whole) e)
+  module _ (point : ℕ) (at : Some point ≡ position (λ b. eqb b 46) field) where
+    parts : split 46 field ≡ take point field ∷ split 46 (drop (point + 1) field)
+    parts = let l = leading_found 46 field point at in rw (add-one, ← l.0) (split-first 46 field (omega (arith, l.0, l.1)))
 
-    -- no point
-    pub whole_alone : (n : ℕ) → point ≡ length field → digits 7 (take point field) ≡ true → n ≡ number_of (take point field)
-        → cond (leb (n * 1000) limit) (some (n * 1000)) none ≡ thousandths_in field
-    unfolding thousandths_in good_parts
-    whole_alone n h d e =
-        let whole : take point field ≡ field = take_all point field (omega arith) in
-        rw (split-none 46 field (sym at ∙ h), rw whole at d, one_part field)
-        (rw (e ∙ ap number_of whole))
+    -- a point, and no decimals
+    pub cut_bad : none ≡ decimals_in (take (length field - (point + 1)) (drop (point + 1) field)) → thousandths_in field ≡ none
+    cut_bad e = bad (λ g. no_decimals (take point field) (drop (point + 1) field) (decimals_untold (drop (point + 1) field) (rw (rest-whole field (point + 1)) at e)) (rw parts at g))
 
-    module _ (h : point < length field) where
-      parts : split 46 field ≡ take point field ∷ split 46 (drop (point + 1) field)
-      parts = rw (add-one, at) (split-first 46 field (rw at at h))
+    -- both
+    pub cut_good : (m : ℕ) → some m ≡ decimals_in (take (length field - (point + 1)) (drop (point + 1) field)) → IsCut field (take point field) m
+    unfolding thousandths_in good_parts thousandths
+    cut_good m e =
+        let back = drop (point + 1) field in
+        let f : some m ≡ decimals_in back = rw (rest-whole field (point + 1)) at e in
+        let d = decimals_told back f in
+        record { below = decimals_below back f; rest = rw (parts, after_point back d.0, d.0, d.1) }
 
-      -- a point, and no decimals
-      pub back-bad : digits 3 (drop (point + 1) field) ≡ false → none ≡ thousandths_in field
-      back-bad e = bad (λ g. no_decimals (take point field) (drop (point + 1) field) e (rw parts at g))
+-- the thousandths of a coordinate that is cut
+module _ (field front : List ℕ) (m : ℕ) (c : IsCut field front m) where
+  pub front_bad : none ≡ digits_in 7 front → none ≡ thousandths_in field
+  front_bad e = sym (c.rest ∙ rw (digits_untold 7 front (lit≤ tt) e))
 
-      -- both
-      pub both_parts : (n m : ℕ) → digits 7 (take point field) ≡ true → n ≡ number_of (take point field)
-          → digits 3 (drop (point + 1) field) ≡ true → m ≡ number_of (drop (point + 1) field) * 10 ^ (3 - length (drop (point + 1) field))
-          → cond (leb (n * 1000 + m) limit) (some (n * 1000 + m)) none ≡ thousandths_in field
-      unfolding thousandths_in
-      both_parts n m d e f g = rw (parts, after_point (drop (point + 1) field) f) (two_parts (take point field) (drop (point + 1) field) n m d e f g)
+  pub front_good : (n : ℕ) → some n ≡ digits_in 7 front → number_read (then_some (leb (n * 1000 + m) limit) (n * 1000 + m)) ≡ thousandths_in field
+  front_good n e = let d = digits-told 7 front e in chosen (leb (n * 1000 + m) limit) (n * 1000 + m) ∙ sym (c.rest ∙ rw (d.0, d.1))
+    where
+      chosen : (b : Bool) (k : ℕ) → number_read (then_some b k) ≡ cond b (some k) none
+      chosen true k = refl
+      chosen false k = refl
 
--- ---- the coordinate: its minus, told by b, and the thousandths of what is left
+-- ---- the coordinate: whether a minus stands in front, and what is left then
 
-module _ (field : List ℕ) (b : Bool) (minus : b ≡ has_minus field) where
-  pub coordinate-bad : none ≡ thousandths_in (drop (bool_byte b) field) → none ≡ millimetres_in field
+pub record IsRest (b : Bool) (field rest : List ℕ) : Type 0 where
+  pub minus : b ≡ has_minus field
+  pub is : rest ≡ cond b (drop 1 field) field
+
+-- as the code takes the minus away
+minus_test : (field : List ℕ) → pointwise eqb (take 1 field) (45 ∷ []) ≡ has_minus field
+unfolding has_minus
+minus_test [] = refl
+minus_test (x ∷ field) = and-true (eqb x 45)
+
+pub rest_after : {field rest : List ℕ} {n : ℕ} → (pointwise eqb (take 1 field) (45 ∷ []) ≡ true) × (rest ≡ drop 1 field) × (length rest + 1 ≡ n) → IsRest true field rest
+rest_after {field} e = record { minus = sym e.0 ∙ minus_test field; is = e.1 }
+
+pub rest_none : {field : List ℕ} → pointwise eqb (take 1 field) (45 ∷ []) ≡ false → IsRest false field field
+rest_none {field} e = record { minus = sym e ∙ minus_test field; is = refl }
+
+pub minus_rest : (field : List ℕ) (b : Bool) → b ≡ has_minus field → parts_of field ≡ split 46 (cond b (drop 1 field) field)
+unfolding parts_of
+minus_rest field b e = rw e
+
+module _ {b : Bool} {field rest : List ℕ} (r : IsRest b field rest) where
+  rest_parts : parts_of field ≡ split 46 rest
+  rest_parts = rw r.is (minus_rest field b r.minus)
+
+  pub coordinate-bad : none ≡ thousandths_in rest → none ≡ millimetres_in field
   unfolding millimetres_in is_coordinate
-  coordinate-bad e = rw (minus_rest field b minus, thousandths_untold (drop (bool_byte b) field) e)
+  coordinate-bad e = rw (rest_parts, thousandths_untold rest e)
 
-  module _ {n : ℕ} (e : some n ≡ thousandths_in (drop (bool_byte b) field)) where
+  module _ {n : ℕ} (e : some n ≡ thousandths_in rest) where
     pub coordinate-within : n ≤ limit
-    coordinate-within = let t = thousandths-told (drop (bool_byte b) field) e in rw t.1 (good-are (split 46 (drop (bool_byte b) field)) t.0).within
+    coordinate-within = let t = thousandths-told rest e in rw t.1 (good-are (split 46 rest) t.0).within
 
-    pub coordinate-good : some (signed b n) ≡ millimetres_in field
+    pub coordinate-good : (m : ℤ) → m ≡ signed b n → some (to_z w64 (of_z w64 m)) ≡ millimetres_in field
     unfolding millimetres_in is_coordinate millimetres
-    coordinate-good =
-        let t = thousandths-told (drop (bool_byte b) field) e in
-        rw (minus_rest field b minus, t.0, t.1, minus)
+    coordinate-good m f =
+        let t = thousandths-told rest e in
+        let size : nat_abs m ≤ limit = rw (f, size-signed b n) coordinate-within in
+        rw (read_back m size, rest_parts, t.0, f, t.1, r.minus)

@@ -1,15 +1,12 @@
 -- Numbers and coordinates in the text of surveyors: what they are, what they mean, and how they are written.
 -- Assumes nothing.
 use Rattle.std.specs.Prelude.{ℕ, suc, ◌+◌, ◌-◌, ◌*◌, ◌/◌, ◌%◌, ◌^◌, Bool, cond, ◌&&◌, ◌||◌, List, [], ◌∷◌, ◌++◌, leb, ltb, eqb, ℤ, pos, negsuc, length, get_or, drop}
+use Rattle.std.specs.Prelude as prelude
 use Rattle.std.proofs.Math.Option.{Option, none, some}
 use Rattle.basics.specs.Lists.{all}
 use Rattle.text.specs.Text.{ascii, digit, decimal, number_of}
 use Rattle.lines.specs.Pieces.{split}
 use Rattle.millimetres.specs.Millimetres.{limit, signed}
-use Rattle.decimals.specs.declared.ReadNumber.{ReadNumber}
-use Rattle.decimals.specs.declared.ReadNumber.TheVariants as number
-use Rattle.decimals.specs.declared.ReadCoordinate.{ReadCoordinate}
-use Rattle.decimals.specs.declared.ReadCoordinate.TheVariants as coordinate
 
 -- ---- digits
 
@@ -81,10 +78,10 @@ unfoldable pub millimetres_in : List ℕ → Option ℤ
 unfolding is_coordinate millimetres
 millimetres_in field = cond (is_coordinate field) (some (millimetres field)) none
 
-abbrev pub number_read : ReadNumber → Option ℕ
-number_read (number.Number n) = some n
-number_read number.Malformed = none
+abbrev pub number_read : prelude.Option ℕ → Option ℕ
+number_read (prelude.Some n) = some n
+number_read prelude.None = none
 
-abbrev pub coordinate_read : ReadCoordinate → Option ℤ
-coordinate_read (coordinate.Millimetres m) = some m
-coordinate_read coordinate.Malformed = none
+abbrev pub coordinate_read : prelude.Option ℤ → Option ℤ
+coordinate_read (prelude.Some m) = some m
+coordinate_read prelude.None = none

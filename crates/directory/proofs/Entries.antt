@@ -12,7 +12,8 @@ use Rattle.basics.specs.Lists.{has}
 use Rattle.basics.proofs.Bools.{by_test}
 use Rattle.table.specs.declared.Row.{Row}
 use Rattle.table.specs.Rows.{run, key_in}
-use Rattle.directory.specs.Entries.{Entry, entry, key_of, join, entries_from, directory_of}
+use Rattle.directory.specs.declared.Entry.{Entry}
+use Rattle.directory.specs.Entries.{entry, key_of, join, entries_from, directory_of}
 
 -- a row joins the first entry, or has one of its own
 pub join-same : (n k : ℕ) (e : Entry) (es : List Entry) → eqb e.key k ≡ true → join n k (e ∷ es) ≡ entry k n (suc e.count) ∷ es
@@ -50,7 +51,7 @@ unfolding join
 length-join n k [] = omega arith
 length-join n k (e ∷ es) = by_test (eqb e.key k) (λ h. rw h (omega arith)) (λ h. rw h (omega arith))
 
-entries-few : (n : ℕ) (ks : List ℕ) → length (entries_from n ks) ≤ length ks
+pub entries-few : (n : ℕ) (ks : List ℕ) → length (entries_from n ks) ≤ length ks
 unfolding entries_from
 entries-few n [] = omega arith
 entries-few n (k ∷ ks) = omega (arith, length-join n k (entries_from (suc n) ks), entries-few (suc n) ks)

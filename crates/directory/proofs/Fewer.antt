@@ -12,7 +12,8 @@ use Rattle.basics.proofs.Bools.{by_test}
 use Rattle.basics.specs.Lists.{keep}
 use Rattle.table.specs.declared.Row.{Row}
 use Rattle.table.specs.Rows.{run, key_in}
-use Rattle.directory.specs.Entries.{Entry, entry, join, entries_from, directory_of}
+use Rattle.directory.specs.declared.Entry.{Entry}
+use Rattle.directory.specs.Entries.{entry, join, entries_from, directory_of}
 use Rattle.directory.proofs.Entries.{join-same, join-other, entries-front}
 
 -- how many of the keys differ from the one before, which for the first is p

@@ -3,9 +3,8 @@
 use Prim.Native.Nat.{ℕ}
 use mathlib.Core.Path.{◌≡◌, refl}
 use mathlib.Core.Bool.{true}
-use mathlib.Core.Option.{none}
-use Rattle.basics.specs.Refusals.{fault, code, refused, success}
-use Rattle.basics.proofs.Refusals.{code-some}
+use mathlib.Core.Option.{none, some}
+use Rattle.basics.specs.Refusals.{fault, refused, success}
 use Rattle.grid_search.specs.declared.GridSearch.{GridSearch}
 use Rattle.table.specs.Library.{Library, table}
 use Rattle.rows.specs.Turn.{Turn, Gives}
@@ -15,9 +14,9 @@ use Rattle.directory.specs.Calls.{directory_tests, filed_by, filed_unless, filin
 
 module _ {A : Type 0} (s : GridSearch) (l : Library) (d : Directory) (t : Turn A) where
   -- 24, 13 or 29
-  pub refused-first : {n : ℕ} → n ≡ code (fault (directory_tests s l d)) → (n ≡ 0 → ⊥) → GivesBoth (filing s l d t) (refused n) l d
+  pub refused-first : {n : ℕ} → fault (directory_tests s l d) ≡ some n → GivesBoth (filing s l d t) (refused n) l d
   unfolding filing filed_unless
-  refused-first {n} e h = rw (code-some (fault (directory_tests s l d)) n e h) (record { answers = refl; library-is = refl; directory-is = refl })
+  refused-first {n} e = rw e (record { answers = refl; library-is = refl; directory-is = refl })
 
   module _ (e : fault (directory_tests s l d) ≡ none) where
     -- the refusal of the call without a directory

@@ -18,7 +18,8 @@ use Rattle.table.specs.Library.{Library, table, level, fits}
 use Rattle.table.specs.Posts.{Long}
 use Rattle.table.proofs.Libraries.{length_over, long}
 use Rattle.rows.specs.Damage.{sound, library_tests}
-use Rattle.directory.specs.Entries.{Entry, key_of, first_of, count_of, directory_of}
+use Rattle.directory.specs.declared.Entry.{Entry}
+use Rattle.directory.specs.Entries.{key_of, first_of, count_of, directory_of}
 use Rattle.directory.specs.Directory.{Directory, directory, entry_at, entries, zeros, file, places, long_places, sound_places, roomy_places}
 use Rattle.directory.specs.Calls.{both_tests, build_tests, built_by, building}
 use Rattle.directory.proofs.Passing.{entries-count, Passing}

@@ -3,7 +3,7 @@ pub mod Entries
 pub mod Fewer
 pub mod Runs
 pub mod Match
-pub mod Look
+pub mod Looks
 pub mod Passing
 pub mod Filing
 pub mod Kept

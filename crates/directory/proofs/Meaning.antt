@@ -15,7 +15,8 @@ use Rattle.sorting.specs.Ascent.{ascending}
 use Rattle.table.specs.declared.Row.{Row}
 use Rattle.table.specs.Rows.{slot_of, before, chain, sorted, key_in}
 use Rattle.table.proofs.First.{key-le}
-use Rattle.directory.specs.Entries.{Entry, entry, key_of, join, entries_from, directory_of}
+use Rattle.directory.specs.declared.Entry.{Entry}
+use Rattle.directory.specs.Entries.{entry, key_of, join, entries_from, directory_of}
 use Rattle.directory.specs.Claims.{lower_rows, rows_within, right}
 use Rattle.directory.proofs.Entries.{join-same, join-other, entries-front}
 

@@ -1,27 +1,28 @@
 -- What passes the tests of a library and its directory, and a law for each way out of the code that makes them.
 -- Assumes nothing.
 use Prim.Native.Nat.{ℕ, ◌≤◌}
-use native.Mathlib.Omega.{arith}
 use mathlib.Core.Path.{◌≡◌, refl, sym, ap, ap₂, ◌∙◌}
 use mathlib.Core.Bool.{true, false, not, and-false}
-use mathlib.Core.Option.{none}
-use mathlib.Core.List.{List, [], ◌∷◌, ◌++◌, map}
+use mathlib.Core.Option.{Option, none, some, some-ne-none}
+use mathlib.Core.List.{List, [], ◌∷◌, map}
 use lib.Dec.{eqb}
 use lib.ListN.{length, take}
+use lib.Seq.{length-take-le}
 use borrow.Author.Tests.{eqb-true, eq-eqb, not-false}
-use Rattle.basics.specs.Refusals.{Test, refuse, fault, code, refused, success}
+use Rattle.basics.specs.Refusals.{Test, refuse, fault, refused, success}
 use Rattle.basics.proofs.Bools.{by_test, clash, and_both, or_left, or_right, or-true}
 use Rattle.basics.proofs.Lists.{length-tab, map-tab, tab-take}
-use Rattle.basics.proofs.Refusals.{unrefused, passed, fault_left, fault-right, fault_stop, code-none, code-some}
+use Rattle.basics.proofs.Refusals.{unrefused, passed, fault_left, fault-right, fault_stop}
 use Rattle.grid_search.specs.declared.GridSearch.{GridSearch}
 use Rattle.table.specs.declared.Row.{Row}
 use Rattle.table.specs.Library.{Library, table, space, too_long, level}
-use Rattle.table.specs.Posts.{Rising}
+use Rattle.std.specs.List.Sorted.{IsNonDecreasing}
 use Rattle.table.proofs.Libraries.{long, ordered, table-keys}
 use Rattle.table.proofs.First.{rising}
 use Rattle.rows.specs.Damage.{sound, library_tests}
 use Rattle.rows.proofs.Check.{not-long, whole, in_order, together}
-use Rattle.directory.specs.Entries.{Entry, key_of, entries_from, directory_of, same_entry, same_entries, look_among, look_up}
+use Rattle.directory.specs.declared.Entry.{Entry}
+use Rattle.directory.specs.Entries.{key_of, entries_from, directory_of, same_entry, same_entries, look_among, look_up}
 use Rattle.directory.specs.Directory.{Directory, entry_at, entries, places, long_places, sound_places, matches}
 use Rattle.directory.specs.Calls.{both_tests, directory_tests, asked_unless, asking, looking_up}
 use Rattle.directory.specs.Posts.{PlaceRoom}
@@ -136,75 +137,65 @@ module _ (s : GridSearch) (l : Library) (d : Directory) where
         ),
       )
 
-  pub directory-numbered : 0 ≡ code (fault (directory_tests s l d)) → fault (directory_tests s l d) ≡ none
-  unfolding directory_tests both_tests
-  directory-numbered e = code-none (directory_tests s l d) ((λ h. omega arith), ((λ h. omega arith), ((λ h. omega arith), tt))) e
-
 -- what the functions below ask, of a library that passes
 
-pub keys-rise : (s : GridSearch) (l : Library) → fault (library_tests s l) ≡ none → Rising l.keys l.used
+pub keys-room : (s : GridSearch) (l : Library) → fault (library_tests s l) ≡ none → l.used ≤ length l.keys
+keys-room s l e = (in_order (whole s l e)).room.0
+
+pub keys-rise : (s : GridSearch) (l : Library) → fault (library_tests s l) ≡ none → IsNonDecreasing (take l.used l.keys)
 keys-rise s l e = rising (ordered (in_order (whole s l e)))
 
 -- ---- the tests in the code's order
 
--- the number of the first tests, and then of those behind them
-module _ (us ts : List Test) where
-  pub first-number : {n : ℕ} → n ≡ code (fault us) → (n ≡ 0 → ⊥) → n ≡ code (fault (us ++ ts))
-  unfolding code
-  first-number {n} e h = sym (ap code (fault_stop us ts n (code-some (fault us) n e h)))
-
-  pub next-number : {n : ℕ} → fault us ≡ none → n ≡ code (fault ts) → n ≡ code (fault (us ++ ts))
-  next-number e f = f ∙ sym (ap code (fault-right us ts e))
-
 module _ (s : GridSearch) (l : Library) (d : Directory) where
-  pub long-list : long_places d ≡ true → 24 ≡ code (fault (both_tests s l d))
-  unfolding both_tests fault code
+  pub long-list : long_places d ≡ true → fault (both_tests s l d) ≡ some 24
+  unfolding both_tests fault
   long-list e = rw (or-true (too_long (space l)) e)
 
   module _ (e : long_places d ≡ false) where
-    pub damaged : {n : ℕ} → n ≡ code (fault (library_tests s l)) → (n ≡ 0 → ⊥) → n ≡ code (fault (both_tests s l d))
-    unfolding both_tests library_tests fault code
-    damaged {n} f h =
-        f
-        ∙ by_test (too_long (space l)) (λ t. rw t)
-        (λ t. by_test (sound s l) (λ g. absurd (h (f ∙ rw (t, g)))) (λ g. rw (t, g, e)))
+    pub damaged : {n : ℕ} → fault (library_tests s l) ≡ some n → fault (both_tests s l d) ≡ some n
+    unfolding both_tests library_tests fault
+    damaged {n} f =
+        by_test (too_long (space l)) (λ t. rw t (rw t at f))
+        (λ t. by_test (sound s l) (λ g. let q : ◌≡◌ {A = Option ℕ} none (some n) = rw (t, g) at f in absurd (some-ne-none n (sym q))) (λ g. rw (t, g, e) (rw (t, g) at f)))
 
     module _ (f : fault (library_tests s l) ≡ none) where
-      pub bad-places : sound_places d ≡ false → 13 ≡ code (fault (both_tests s l d))
-      unfolding both_tests fault code
+      pub bad-places : sound_places d ≡ false → fault (both_tests s l d) ≡ some 13
+      unfolding both_tests fault
       bad-places g = rw (not-long s l f, e, g, and-false)
 
-      pub sound-places : sound_places d ≡ true → 0 ≡ code (fault (both_tests s l d))
-      unfolding both_tests fault code
+      pub sound-places : sound_places d ≡ true → fault (both_tests s l d) ≡ none
+      unfolding both_tests fault
       sound-places g = rw (not-long s l f, e, together s l (whole s l f), g)
 
-  pub both-numbered : 0 ≡ code (fault (both_tests s l d)) → fault (both_tests s l d) ≡ none
-  unfolding both_tests
-  both-numbered e = code-none (both_tests s l d) ((λ h. omega arith), ((λ h. omega arith), tt)) e
-
   -- 29
-  pub lists-refused : {n : ℕ} → n ≡ code (fault (both_tests s l d)) → (n ≡ 0 → ⊥) → n ≡ code (fault (directory_tests s l d))
+
+  abbrev match_test : List Test
+  match_test = refuse 29 (not (matches (table l) d)) ∷ []
+
+  pub lists-refused : {n : ℕ} → fault (both_tests s l d) ≡ some n → fault (directory_tests s l d) ≡ some n
   unfolding directory_tests
-  lists-refused f h = first-number (both_tests s l d) (refuse 29 (not (matches (table l) d)) ∷ []) f h
+  lists-refused {n} f = fault_stop (both_tests s l d) match_test n f
 
-  module _ (f : 0 ≡ code (fault (both_tests s l d))) where
-    pub no_match : matches (table l) d ≡ false → 29 ≡ code (fault (directory_tests s l d))
-    unfolding directory_tests fault code
-    no_match m = next-number (both_tests s l d) (refuse 29 (not (matches (table l) d)) ∷ []) (both-numbered f) (rw m)
+  module _ (f : fault (both_tests s l d) ≡ none) where
+    pub no_match : matches (table l) d ≡ false → fault (directory_tests s l d) ≡ some 29
+    unfolding directory_tests fault
+    no_match m = fault-right (both_tests s l d) match_test f ∙ rw m
 
-    pub match : matches (table l) d ≡ true → 0 ≡ code (fault (directory_tests s l d))
-    unfolding directory_tests fault code
-    match m = next-number (both_tests s l d) (refuse 29 (not (matches (table l) d)) ∷ []) (both-numbered f) (rw m)
+    pub match : matches (table l) d ≡ true → fault (directory_tests s l d) ≡ none
+    unfolding directory_tests fault
+    match m = fault-right (both_tests s l d) match_test f ∙ rw m
 
   -- ---- the look-up
 
-  pub look-refused : (key : ℕ) {n : ℕ} → n ≡ code (fault (directory_tests s l d)) → (n ≡ 0 → ⊥) → refused n ≡ looking_up s l d key
+  pub look-refused : (key : ℕ) {n : ℕ} → fault (directory_tests s l d) ≡ some n → refused n ≡ looking_up s l d key
   unfolding looking_up asking asked_unless
-  look-refused key {n} f h = rw (code-some (fault (directory_tests s l d)) n f h)
+  look-refused key f = rw f
 
-  pub look-told : (key : ℕ) → 0 ≡ code (fault (directory_tests s l d)) → success (look_among d.used key (take d.used d.keys) 0 d.used) ≡ looking_up s l d key
-  unfolding looking_up asking asked_unless look_up
-  look-told key f =
-      let e = directory-numbered s l d f in
-      let room = place-room d (passing s l d e).places-sound in
-      rw (e, entries-count d, entries-keys d room.0)
+  module _ (f : fault (directory_tests s l d) ≡ none) where
+    pub places-room : PlaceRoom d d.used
+    places-room = place-room d (passing s l d f).places-sound
+
+    pub look-told : (key : ℕ) → success (look_among (length (take d.used d.keys)) key (take d.used d.keys) 0 (length (take d.used d.keys))) ≡ looking_up s l d key
+    unfolding looking_up asking asked_unless look_up
+    look-told key = rw (f, entries-count d, entries-keys d places-room.0, length-take-le d.used d.keys places-room.0)

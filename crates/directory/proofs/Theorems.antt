@@ -17,14 +17,15 @@ use Rattle.table.specs.Rows.{key_in}
 use Rattle.table.specs.Library.{Library, table, space, too_long}
 use Rattle.table.proofs.Libraries.{length-table}
 use Rattle.rows.proofs.Check.{not-long, whole}
-use Rattle.directory.specs.Entries.{Entry, key_of, directory_of, Looked, look_up}
+use Rattle.directory.specs.declared.Entry.{Entry}
+use Rattle.directory.specs.Entries.{key_of, directory_of, Looked, look_up}
 use Rattle.directory.specs.Directory.{Directory, entries}
 use Rattle.directory.specs.Calls.{directory_tests, asked_unless, asking, looking_up}
 use Rattle.directory.specs.Claims.{Meant, Finding, LookUps, LookedRight, LookUpCalls}
 use Rattle.directory.proofs.Entries.{directory-few, entries_have}
-use Rattle.directory.proofs.Passing.{entries-count, Passing, passing, keys-rise}
+use Rattle.directory.proofs.Passing.{entries-count, Passing, passing, keys-room}
 use Rattle.directory.proofs.Meaning.{keys-ascend, all_right, all-keys, ascend_at}
-use Rattle.directory.proofs.Look.{few-reads, found-has, is_found, has-index, index-has}
+use Rattle.directory.proofs.Looks.{few-reads, found-has, is_found, has-index, index-has}
 
 -- the keys of rows are those of their directory
 pub directory-has : (key : ℕ) (rows : List Row) → has key (map key_of (directory_of rows)) ≡ has key (map key_in rows)
@@ -99,7 +100,7 @@ module _ (s : GridSearch) (l : Library) (d : Directory) (key : ℕ) (k : Looked)
   unfolding too_long space any
   few-rows =
       let a : length l.keys ≤ 65536 = ltb-false 65536 (length l.keys) (or_left _ _ (not-long s l p.library-passes)) in
-      omega (arith, length-table l, (keys-rise s l p.library-passes).room)
+      omega (arith, length-table l, keys-room s l p.library-passes)
 
   looked_right : LookedRight l d key k
   looked_right = record {

@@ -11,10 +11,11 @@ use Rattle.rows.specs.Damage.{sound}
 use Rattle.rows.specs.Turn.{Turn}
 use Rattle.directory.specs.Entries.{Looked, directory_of, look_up}
 use Rattle.directory.specs.Directory.{Directory, directory, entries, file, long_places, sound_places, matches, roomy_places}
-use Rattle.directory.specs.declared.Built.{Built}
-use Rattle.directory.specs.declared.Built.TheVariants as build
-use Rattle.directory.specs.declared.LookedUp.{LookedUp}
-use Rattle.directory.specs.declared.LookedUp.TheVariants as look
+use Rattle.directory.specs.declared.Look as code
+use Rattle.std.specs.Prelude as prelude
+use Rattle.std.specs.Prelude.{Some, None, Result}
+use Rattle.basics.specs.declared.Refusal.{Refusal}
+use Rattle.basics.specs.Answers.{answered}
 
 -- ---- what turns a library and its directory away
 
@@ -117,14 +118,8 @@ pub record Builds (b : Building) (a : Answer ℕ) (d : Directory) : Type 0 where
   pub answers : a ≡ b.answer
   pub directory-is : d ≡ b.directory
 
-abbrev pub built : Built → Answer ℕ
-built (build.Places n) = success n
-built (build.Refused n) = refused n
-
--- how many places are in use after it
-abbrev pub places_after : Built → ℕ → ℕ
-places_after (build.Places n) used = n
-places_after (build.Refused n) used = used
+abbrev pub built : Result ℕ Refusal → Answer ℕ
+built = answered (λ n. n)
 
 -- ---- the look-up
 
@@ -133,7 +128,13 @@ unfoldable pub looking_up : GridSearch → Library → Directory → ℕ → Ans
 unfolding asking look_up entries
 looking_up s l d key = asking s l d (success (look_up key (entries d)))
 
-abbrev pub looked_up : LookedUp → Answer Looked
-looked_up (look.At p n) = success (record { place = some p; reads = n })
-looked_up (look.Nowhere n) = success (record { place = none; reads = n })
-looked_up (look.Refused n) = refused n
+-- what the code's look-up tells
+abbrev pub place_told : prelude.Option ℕ → Option ℕ
+place_told (Some p) = some p
+place_told None = none
+
+abbrev pub look_of : code.Look → Looked
+look_of l = record { place = place_told l.place; reads = l.reads }
+
+abbrev pub looked_up : Result code.Look Refusal → Answer Looked
+looked_up = answered look_of

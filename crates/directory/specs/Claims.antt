@@ -9,7 +9,8 @@ use Rattle.sorting.specs.Ascent.{ascending}
 use Rattle.table.specs.declared.Row.{Row}
 use Rattle.table.specs.Rows.{slot_of, sorted, key_in}
 use Rattle.table.specs.Library.{Library, table}
-use Rattle.directory.specs.Entries.{Entry, key_of, directory_of, Looked, look_up}
+use Rattle.directory.specs.declared.Entry.{Entry}
+use Rattle.directory.specs.Entries.{key_of, directory_of, Looked, look_up}
 use Rattle.directory.specs.Directory.{Directory, entries}
 use Rattle.directory.specs.Calls.{looking_up}
 

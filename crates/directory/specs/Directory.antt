@@ -4,7 +4,8 @@ use Rattle.std.specs.Prelude.{ℕ, Bool, ◌&&◌, List, [], ◌∷◌, map, ltb
 use Rattle.basics.specs.Lists.{any, tab, over}
 use Rattle.table.specs.declared.Row.{Row}
 use Rattle.table.specs.Library.{level, fits}
-use Rattle.directory.specs.Entries.{Entry, entry, key_of, first_of, count_of, directory_of, same_entries}
+use Rattle.directory.specs.declared.Entry.{Entry}
+use Rattle.directory.specs.Entries.{entry, key_of, first_of, count_of, directory_of, same_entries}
 
 pub record Directory : Type 0 where
   pub keys : List ℕ

@@ -3,13 +3,8 @@
 use Rattle.std.specs.Prelude.{ℕ, zero, suc, ◌+◌, ◌-◌, ◌/◌, Bool, true, false, cond, ◌&&◌, List, [], ◌∷◌, map, ltb, eqb, length, get_or}
 use Rattle.std.proofs.Math.Option.{Option, none, some}
 use Rattle.table.specs.declared.Row.{Row}
+use Rattle.directory.specs.declared.Entry.{Entry}
 use Rattle.table.specs.Rows.{key_in}
-
--- a container in use: its key, its first row, and how many rows it has
-pub record Entry : Type 0 where
-  pub key : ℕ
-  pub first : ℕ
-  pub count : ℕ
 
 abbrev pub entry : ℕ → ℕ → ℕ → Entry
 entry key first count = record { key = key; first = first; count = count }

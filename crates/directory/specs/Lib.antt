@@ -2,6 +2,8 @@
 -- and what the functions ask and ensure.
 pub mod Entries
 pub mod Directory
+pub mod Lent
+pub mod Left
 pub mod Calls
 pub mod Claims
 pub mod Posts

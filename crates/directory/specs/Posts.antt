@@ -1,8 +1,9 @@
 -- What the crate's inner functions ask and ensure. Definitions only.
-use Rattle.std.specs.Prelude.{ℕ, ◌≡◌, Bool, false, List, [], ◌∷◌, map, length, take}
-use Rattle.table.specs.Posts.{Long}
-use Rattle.directory.specs.Entries.{Entry, key_of, first_of, count_of, same_entry}
-use Rattle.directory.specs.Directory.{Directory, places}
+use Rattle.std.specs.Prelude.{ℕ, ◌+◌, ◌≡◌, Bool, false, List, [], ◌∷◌, map, length, take, set}
+use Rattle.table.specs.Posts.{Long, cleared}
+use Rattle.directory.specs.declared.Entry.{Entry}
+use Rattle.directory.specs.Entries.{key_of, first_of, count_of, same_entry}
+use Rattle.directory.specs.Directory.{Directory, directory, places}
 
 -- each list has at least n places
 abbrev pub PlaceRoom : Directory → ℕ → Type 0
@@ -25,3 +26,14 @@ pub record Written (es : List Entry) (d after : Directory) : Type 0 where
   pub keys : Fronted (map key_of es) d.keys after.keys
   pub firsts : Fronted (map first_of es) d.firsts after.firsts
   pub counts : Fronted (map count_of es) d.counts after.counts
+
+-- an entry is written at a place, or behind those in use
+abbrev pub placed : ℕ → Entry → Directory → Directory
+placed at e d = directory (set d.keys at e.key) (set d.firsts at e.first) (set d.counts at e.count) d.used
+
+abbrev pub pushed : Entry → Directory → Directory
+pushed e d = directory (set d.keys d.used e.key) (set d.firsts d.used e.first) (set d.counts d.used e.count) (d.used + 1)
+
+-- the first n places are in use, and there are zeros past them
+abbrev pub cut_off : ℕ → Directory → Directory
+cut_off n d = directory (cleared 0 n d.keys) (cleared 0 n d.firsts) (cleared 0 n d.counts) n

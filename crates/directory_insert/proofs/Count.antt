@@ -3,13 +3,13 @@
 use Prim.Native.Nat.{ℕ, ◌+◌, ◌≤◌, ◌<◌}
 use native.Mathlib.Nat.{le_of_suc-le-suc, not-suc-le-zero}
 use native.Mathlib.Numerals.{add-one}
-use native.Mathlib.Omega.{arith}
 use mathlib.Core.Path.{◌≡◌, refl, sym, ap, ◌∙◌}
 use mathlib.Core.Bool.{true, false, ◌||◌, cond, or-true, or-false}
 use mathlib.Core.List.{List, [], ◌∷◌, map}
 use lib.Dec.{ltb, eqb}
 use lib.ListN.{length, get_or, take, length-map}
-use lib.Seq.{take_all, length-take-le, get_or-take}
+use lib.Seq.{take_all}
+use Rattle.std.specs.Prelude.{Result, Ok, Err, is_ok}
 use Rattle.basics.proofs.Bools.{by_test}
 use Rattle.basics.specs.Lists.{has}
 use Rattle.geometry.specs.declared.Position.{Position}
@@ -17,7 +17,7 @@ use Rattle.table.specs.declared.Row.{Row}
 use Rattle.table.specs.Rows.{slot_of, sorted, lead, key_in, row_in, put_row, put_in}
 use Rattle.table.proofs.All.{all-next, sorted_all}
 use Rattle.directory.specs.Entries.{key_of, directory_of}
-use Rattle.directory_insert.specs.Posts.{found, PlacesAfter}
+use Rattle.directory_insert.specs.Posts.{FindsPlace, found, PlacesAfter}
 use Rattle.directory_insert.proofs.Entered.{has-put, found-directory, length-directory}
 
 -- ---- whether a key has a place, by the first key that is not lower
@@ -32,14 +32,17 @@ unfolding found lead
 found-past key [] h = refl
 found-past key (k ∷ ks) h = by_test (ltb k key) (λ e. rw e (found-past key ks (le_of_suc-le-suc (rw e at h)))) (λ e. absurd (not-suc-le-zero (rw e at h)))
 
-module _ (keys : List ℕ) (used key at : ℕ) (r : used ≤ length keys) (e : at ≡ lead key (take used keys)) where
-  pub key_there : at < used → eqb (get_or keys at 0) key ≡ found key (take used keys)
-  key_there h =
-      let m = length-take-le used keys r in
-      sym (found_there key (take used keys) (omega (arith, e)) ∙ ap (λ (i : ℕ). eqb (get_or (take used keys) i 0) key) (sym e) ∙ ap (λ (k : ℕ). eqb k key) (get_or-take used keys at 0 h))
+module _ (keys : List ℕ) (key at : ℕ) (e : at ≡ lead key keys) where
+  pub key-there : at < length keys → found key keys ≡ eqb (get_or keys at 0) key
+  key-there h = rw e (found_there key keys (rw e at h))
 
-  pub key-past : used ≤ at → false ≡ found key (take used keys)
-  key-past h = let m = length-take-le used keys r in sym (found-past key (take used keys) (omega (arith, e)))
+  pub key-past : length keys ≤ at → found key keys ≡ false
+  key-past h = found-past key keys (rw e at h)
+
+-- whether there is a place, as the look-up tells it
+pub finds-found : (key : ℕ) (keys : List ℕ) (r : Result ℕ ℕ) → FindsPlace key keys r → found key keys ≡ is_ok r
+finds-found key keys (Ok at) f = f.1
+finds-found key keys (Err at) f = f.1
 
 -- ---- a mark in several containers
 

@@ -13,7 +13,8 @@ use Rattle.basics.proofs.Lists.{map-tab, tab-take}
 use Rattle.table.specs.Rows.{lead}
 use Rattle.table.specs.Posts.{opened}
 use Rattle.table.proofs.Libraries.{length_over}
-use Rattle.directory.specs.Entries.{Entry, key_of, first_of, count_of}
+use Rattle.directory.specs.declared.Entry.{Entry}
+use Rattle.directory.specs.Entries.{key_of, first_of, count_of}
 use Rattle.directory.specs.Directory.{Directory, directory, entry_at, entries}
 use Rattle.directory.specs.Posts.{PlaceRoom, Fronted, Written}
 use Rattle.directory.proofs.Passing.{entries-count, entries-keys}
@@ -82,12 +83,12 @@ write-write es more d h = λ i. record { keys = again key_of d.keys i; firsts = 
     again f l = over_again (map f es) (map f more) l (omega (arith, length-map es f, length-map more f))
 
 -- in as many places, where there is room
-abbrev pub SamePlaces : Directory → Directory → Type 0
-SamePlaces d after = (length after.keys ≡ length d.keys) × (length after.firsts ≡ length d.firsts) × (length after.counts ≡ length d.counts)
+abbrev pub AsLong : Directory → Directory → Type 0
+AsLong d after = (length after.keys ≡ length d.keys) × (length after.firsts ≡ length d.firsts) × (length after.counts ≡ length d.counts)
 
-pub same-places : (es : List Entry) (d : Directory) → PlaceRoom d (length es) → SamePlaces d (write_places es d)
+pub as-long : (es : List Entry) (d : Directory) → PlaceRoom d (length es) → AsLong d (write_places es d)
 unfolding write_places
-same-places es d h = (kept key_of d.keys h.0, kept first_of d.firsts h.1.0, kept count_of d.counts h.1.1.0)
+as-long es d h = (kept key_of d.keys h.0, kept first_of d.firsts h.1.0, kept count_of d.counts h.1.1.0)
   where
     kept : (f : Entry → ℕ) (l : List ℕ) → length es ≤ length l → length (over (map f es) l) ≡ length l
     kept f l h = length_over (map f es) l (omega (arith, length-map es f))
@@ -102,47 +103,47 @@ write-written es d h = record { count = refl; keys = front key_of d.keys h.0; fi
 
 -- ---- one more row
 
-module _ (key n : ℕ) (d : Directory) (x : Enters key n d) {at : ℕ} (e : at ≡ lead key (take d.used d.keys)) {b : Bool} (f : b ≡ found key (take d.used d.keys)) where
+module _ (key n : ℕ) (d : Directory) (x : Enters key n d) {at : ℕ} (e : at ≡ lead key (take d.used d.keys)) where
   keys_in_lem : map key_of (entries d) ≡ take d.used d.keys
   keys_in_lem = entries-keys d x.room.0
 
   at_place : lead key (map key_of (entries d)) ≡ at
   at_place = rw keys_in_lem (sym e)
 
-  found-is : found key (map key_of (entries d)) ≡ b
-  found-is = rw keys_in_lem (sym f)
+  found-is : {b : Bool} → found key (take d.used d.keys) ≡ b → found key (map key_of (entries d)) ≡ b
+  found-is y = rw keys_in_lem y
 
   pub enter-most : at ≤ d.used
   enter-most = omega (arith, place-most key n d.used (entries d) (entries-count d), at_place)
 
   -- firsts and counts are small enough for one more
-  pub enter-small : (i : ℕ) → i < d.used → get_or d.firsts i 0 < 2 ^ 63
+  pub enter-small : (i : ℕ) → i < d.used → get_or d.firsts i 0 + 1 < 2 ^ 64
   enter-small i h = omega (arith, (x.small i h).0, x.few)
 
   -- its container has a place
-  module _ (y : b ≡ true) where
+  module _ (y : found key (take d.used d.keys) ≡ true) where
     pub enter_there : at < d.used
-    enter_there = omega (arith, place_there key n d.used (entries d) (entries-count d) (found-is ∙ y), at_place)
+    enter_there = omega (arith, place_there key n d.used (entries d) (entries-count d) (found-is y), at_place)
 
-    pub enter-count : get_or d.counts at 0 < 2 ^ 63
+    pub enter-count : get_or d.counts at 0 + 1 < 2 ^ 64
     enter-count = omega (arith, (x.small at enter_there).1, x.few)
 
     pub entered_there : {firsts : List ℕ} → firsts ≡ stepped (at + 1) d.used d.firsts
         → directory d.keys firsts (set d.counts at (get_or d.counts at 0 + 1)) d.used ≡ write_places (entered key n (entries d)) d
     unfolding write_places
     entered_there g = sym (λ i. record {
-      keys = old_keys key n d.used (entries d) (entries-count d) (found-is ∙ y) d.keys keys_in_lem x.room.0 i;
-      firsts = (old_firsts key n d.used (entries d) (entries-count d) (found-is ∙ y) d.firsts (entries-firsts d x.room.1.0) x.room.1.0
+      keys = old_keys key n d.used (entries d) (entries-count d) (found-is y) d.keys keys_in_lem x.room.0 i;
+      firsts = (old_firsts key n d.used (entries d) (entries-count d) (found-is y) d.firsts (entries-firsts d x.room.1.0) x.room.1.0
           ∙ ap (λ (p : ℕ). stepped (p + 1) d.used d.firsts) at_place ∙ sym g) i;
-      counts = (old_counts key n d.used (entries d) (entries-count d) (found-is ∙ y) d.counts (entries-counts d x.room.1.1.0) x.room.1.1.0
+      counts = (old_counts key n d.used (entries d) (entries-count d) (found-is y) d.counts (entries-counts d x.room.1.1.0) x.room.1.1.0
           ∙ ap (λ (p : ℕ). set d.counts p (get_or d.counts p 0 + 1)) at_place) i;
-      used = old_length key n d.used (entries d) (entries-count d) (found-is ∙ y) i;
+      used = old_length key n d.used (entries d) (entries-count d) (found-is y) i;
     })
 
   -- it has none
-  module _ (y : b ≡ false) where
+  module _ (y : found key (take d.used d.keys) ≡ false) where
     longer : length (entered key n (entries d)) ≡ suc d.used
-    longer = new_length key n d.used (entries d) (entries-count d) (found-is ∙ y)
+    longer = new_length key n d.used (entries d) (entries-count d) (found-is y)
 
     pub enter-room : PlaceRoom d (d.used + 1)
     enter-room = omega (arith, longer, x.enough)
@@ -152,12 +153,12 @@ module _ (key n : ℕ) (d : Directory) (x : Enters key n d) {at : ℕ} (e : at �
         → directory keys firsts counts (d.used + 1) ≡ write_places (entered key n (entries d)) d
     unfolding write_places
     entered_new_place v m k f c = sym (λ i. record {
-      keys = (new_keys key n d.used (entries d) (entries-count d) (found-is ∙ y) d.keys keys_in_lem (omega (arith, enter-room))
+      keys = (new_keys key n d.used (entries d) (entries-count d) (found-is y) d.keys keys_in_lem (omega (arith, enter-room))
           ∙ ap (λ (p : ℕ). opened p d.used key d.keys) at_place ∙ sym k) i;
-      firsts = (new_firsts key n d.used (entries d) (entries-count d) (found-is ∙ y) d.firsts (entries-firsts d x.room.1.0) (omega (arith, enter-room))
+      firsts = (new_firsts key n d.used (entries d) (entries-count d) (found-is y) d.firsts (entries-firsts d x.room.1.0) (omega (arith, enter-room))
           ∙ ap (λ (p : ℕ). opened p d.used (get_or (take d.used d.firsts) p n) (stepped p d.used d.firsts)) at_place
           ∙ ap₂ (λ (w : ℕ) (l : List ℕ). opened at d.used w l) (sym v) (sym m) ∙ sym f) i;
-      counts = (new_counts key n d.used (entries d) (entries-count d) (found-is ∙ y) d.counts (entries-counts d x.room.1.1.0) (omega (arith, enter-room))
+      counts = (new_counts key n d.used (entries d) (entries-count d) (found-is y) d.counts (entries-counts d x.room.1.1.0) (omega (arith, enter-room))
           ∙ ap (λ (p : ℕ). opened p d.used 1 d.counts) at_place ∙ sym c) i;
       used = (longer ∙ sym (add-one d.used)) i;
     })

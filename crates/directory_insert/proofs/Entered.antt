@@ -17,7 +17,8 @@ use Rattle.table.specs.declared.Row.{Row}
 use Rattle.table.specs.Rows.{Slot, slot_of, before, same, chain, sorted, held, key_in, put_row}
 use Rattle.table.proofs.Order.{before-total, same-eq, chain-sorted}
 use Rattle.table.proofs.First.{key-le}
-use Rattle.directory.specs.Entries.{Entry, entry, key_of, join, entries_from, directory_of}
+use Rattle.directory.specs.declared.Entry.{Entry}
+use Rattle.directory.specs.Entries.{entry, key_of, join, entries_from, directory_of}
 use Rattle.directory.proofs.Entries.{entries-front}
 use Rattle.directory.proofs.Meaning.{keys-ascend, ascend_at}
 use Rattle.directory_insert.specs.Posts.{later, entered, found}

@@ -1,14 +1,14 @@
 -- A mark stored in several containers, with the directory brought up to date beside the rows.
 -- Assumes nothing.
-use Prim.Native.Nat.{ℕ, ◌+◌, ◌^◌, ◌≤◌, ◌<◌}
+use Prim.Native.Nat.{ℕ, suc, ◌+◌, ◌^◌, ◌≤◌, ◌<◌}
 use native.Mathlib.Omega.{arith}
 use mathlib.Core.Path.{◌≡◌, sym, ap, ap₂, ◌∙◌, subst}
-use mathlib.Core.Bool.{true, false, cond}
+use mathlib.Core.Bool.{true, false}
 use mathlib.Core.List.{List, [], ◌∷◌, map}
-use lib.Dec.{leb, eqb}
+use lib.Dec.{leb}
 use lib.ListN.{length, get_or, take, drop, take-append-drop}
 use lib.Seq.{get_or-take, take_all}
-use borrow.Author.Tests.{leb-true, eqb-true, eqb-false}
+use borrow.Author.Tests.{leb-true}
 use Rattle.basics.proofs.Bools.{by_test, and_both}
 use Rattle.basics.specs.Lists.{all}
 use Rattle.basics.proofs.Lists.{all_at, get_or-tab}
@@ -16,18 +16,21 @@ use Rattle.geometry.specs.declared.Position.{Position}
 use Rattle.table.specs.declared.Row.{Row}
 use Rattle.table.specs.Rows.{slot_of, sorted, held, row_in, put_row, put_in}
 use Rattle.table.specs.Library.{Library, table}
-use Rattle.table.specs.Posts.{Rising, Takes, Becomes}
+use Rattle.std.specs.List.Sorted.{IsNonDecreasing}
+use Rattle.table.specs.Posts.{Takes, Becomes}
+use Rattle.table.proofs.First.{take-rising}
 use Rattle.table.proofs.Stores.{length-put}
 use Rattle.table.proofs.Meaning.{sorted-put}
-use Rattle.table.proofs.Libraries.{table-write, write-used, SameLengths}
-use Rattle.table.proofs.All.{all_append, all-next, sorted_all, all_start, all-lengths, all_takes, all_again}
-use Rattle.directory.specs.Entries.{Entry, entry, key_of, directory_of}
+use Rattle.table.proofs.Libraries.{table-write, write-used}
+use Rattle.table.proofs.All.{all_append, all-next, sorted_all, all_start, all_takes, all_again}
+use Rattle.directory.specs.declared.Entry.{Entry}
+use Rattle.directory.specs.Entries.{entry, key_of, directory_of}
 use Rattle.directory.specs.Directory.{Directory, entry_at, entries}
 use Rattle.directory.specs.Posts.{PlaceRoom}
 use Rattle.directory.proofs.Passing.{entries-count, entries-keys, place-room}
 use Rattle.directory_insert.specs.Posts.{entered, write_places, Enters, TakesAll, BecomesBoth}
 use Rattle.directory_insert.proofs.Entered.{directory_new, directory_old, directory-longer, directory_rises, directory-within, within}
-use Rattle.directory_insert.proofs.Directories.{entries-write, write_same, write-write, SamePlaces, same-places}
+use Rattle.directory_insert.proofs.Directories.{entries-write, write_same, write-write, AsLong, as-long}
 
 -- ---- what is known of a directory that matches rows in order
 
@@ -35,8 +38,8 @@ module _ (d : Directory) (rows : List Row) (m : entries d ≡ directory_of rows)
   pub places-are : d.used ≡ length (directory_of rows)
   places-are = sym (entries-count d) ∙ ap length m
 
-  pub matching_rises : sorted (map slot_of rows) ≡ true → d.used ≤ length d.keys → Rising d.keys d.used
-  matching_rises o r = record { room = r; rise = λ i j h k. rw (at i (omega arith), at j k) (directory_rises rows o i j h (omega (arith, places-are))) }
+  pub matching_rises : sorted (map slot_of rows) ≡ true → d.used ≤ length d.keys → IsNonDecreasing (take d.used d.keys)
+  matching_rises o r = take-rising d.keys d.used r (λ i j h k. rw (at i (omega arith), at j k) (directory_rises rows o i j h (omega (arith, places-are))))
     where
       at : (i : ℕ) → i < d.used → get_or d.keys i 0 ≡ get_or (map key_of (directory_of rows)) i 0
       at i h = sym (get_or-take d.used d.keys i 0 h) ∙ ap (λ (ks : List ℕ). get_or ks i 0) (sym (entries-keys d r) ∙ ap (map key_of) m)
@@ -111,11 +114,8 @@ module _ (id : ℕ) (at : Position) (into : List ℕ) (l : Library) (d : Directo
     room_done : PlaceRoom d (length (directory_of done))
     room_done = omega (arith, grows_part id at into i (table l) order, t.room)
 
-    pub both-lengths : SameLengths l m
-    both-lengths = all-lengths id at into l takes i h.rows
-
-    pub both-places : SamePlaces d e
-    both-places = rw h.places-are (same-places (directory_of done) d room_done)
+    pub both-places : AsLong d e
+    both-places = rw h.places-are (as-long (directory_of done) d room_done)
 
     used-are : e.used ≡ length (directory_of done)
     used-are = places-are e done entries-are
@@ -141,7 +141,12 @@ module _ (id : ℕ) (at : Position) (into : List ℕ) (l : Library) (d : Directo
             directory_new row done sorted_done (made_one row done (λ q. y (count-is ∙ q ∙ sym next-count)))
             ∙ ap₂ (λ (j : ℕ) (es : List Entry). entered (get_or into i 0) j es) (sym count-is) (sym entries-are)
 
-        pub both_enters : m.used < 2 ^ 63 → Enters (get_or into i 0) m.used e
+        one_row : n.used ≡ m.used + 1
+        one_row =
+            let made : length (put_row row done) ≡ suc (length done) = length-put row done ∙ rw (made_one row done (λ q. y (count-is ∙ q ∙ sym next-count))) in
+            omega (arith, made, next-count, count-is)
+
+        pub both_enters : n.used < 2 ^ 64 → Enters (get_or into i 0) m.used e
         both_enters few =
             let most : length (entered (get_or into i 0) m.used (entries e)) ≤ length (directory_of (put_in id at into (table l))) =
             omega (arith, ap length new_row, ap (λ (rows : List Row). length (directory_of rows)) next-is, grows_part id at into (i + 1) (table l) order) in
@@ -149,27 +154,29 @@ module _ (id : ℕ) (at : Position) (into : List ℕ) (l : Library) (d : Directo
               rising = matching_rises e done entries-are sorted_done (omega (arith, room_done, both-places, used-are));
               room = omega (arith, room_done, both-places, used-are);
               enough = omega (arith, most, both-places, t.room);
-              few = few;
+              few = omega (arith, one_row);
               small = rw count-is (matching-small e done entries-are);
             }
 
-      pub both_again : {after : Directory} → after ≡ cond (eqb m.used n.used) e (write_places (entered (get_or into i 0) m.used (entries e)) e)
-          → BecomesBoth (put_in id at (take (i + 1) into)) l d n after
-      both_again {after} q = record {
-        rows = all_again id at into l takes i h.rows k g;
-        places-are = by_test (eqb m.used n.used) same more ∙ ap (λ (rows : List Row). write_places (directory_of rows) d) (sym next-is);
-      }
-        where
-          same : eqb m.used n.used ≡ true → after ≡ write_places (directory_of (put_row row done)) d
-          same b =
-              (rw b at q) ∙ h.places-are
-              ∙ ap (λ (es : List Entry). write_places es d) (sym (directory_old row done (made_none row done (sym count-is ∙ eqb-true m.used n.used b ∙ next-count))))
-
-          more : eqb m.used n.used ≡ false → after ≡ write_places (directory_of (put_row row done)) d
-          more b =
-              (rw b at q)
-              ∙ ap₂ write_places (sym (new_row (eqb-false m.used n.used b))) h.places-are
+        pub both-more : {after : Directory} → after ≡ write_places (entered (get_or into i 0) m.used (entries e)) e → BecomesBoth (put_in id at (take (i + 1) into)) l d n after
+        both-more {after} q = record {
+          rows = all_again id at into l takes i h.rows k g;
+          places-are =
+              q
+              ∙ ap₂ write_places (sym new_row) h.places-are
               ∙ write-write (directory_of done) (directory_of (put_row row done)) d (directory-longer row done sorted_done)
+              ∙ ap (λ (rows : List Row). write_places (directory_of rows) d) (sym next-is);
+        }
+
+      -- it made none
+      pub both-same : m.used ≡ n.used → BecomesBoth (put_in id at (take (i + 1) into)) l d n e
+      both-same y = record {
+        rows = all_again id at into l takes i h.rows k g;
+        places-are =
+            h.places-are
+            ∙ ap (λ (es : List Entry). write_places es d) (sym (directory_old row done (made_none row done (sym count-is ∙ y ∙ next-count))))
+            ∙ ap (λ (rows : List Row). write_places (directory_of rows) d) (sym next-is);
+      }
 
     pub both_end : length into ≤ i → BecomesBoth (put_in id at into) l d m e
     both_end k = rw (take_all i into k) at h

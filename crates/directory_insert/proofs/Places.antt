@@ -8,16 +8,17 @@ use mathlib.Core.Path.{◌≡◌, refl, sym, ap, ap₂, ◌∙◌}
 use mathlib.Core.Bool.{true, false}
 use mathlib.Core.List.{List, [], ◌∷◌, ◌++◌, map}
 use lib.Dec.{ltb}
-use lib.ListN.{length, get_or, take, drop, set, length-map, length-set, get_or-eq_default}
-use lib.Seq.{length-take-le, get_or-take, get_or-set_other, set-get_or}
+use lib.ListN.{length, get_or, take, drop, set, length-map, length-set}
+use lib.Seq.{get_or-take, get_or-set_other, set-get_or}
 use borrow.Author.Tests.{eqb-true}
 use Rattle.basics.specs.Lists.{over}
 use Rattle.basics.proofs.Bools.{by_test, clash}
-use Rattle.basics.proofs.Lists.{map-drop, get_or-any}
+use Rattle.basics.proofs.Lists.{map-drop}
 use Rattle.table.specs.Rows.{lead}
 use Rattle.table.specs.Posts.{opened}
 use Rattle.table.proofs.Stores.{opened_parts, set_parts}
-use Rattle.directory.specs.Entries.{Entry, entry, key_of, first_of, count_of}
+use Rattle.directory.specs.declared.Entry.{Entry}
+use Rattle.directory.specs.Entries.{entry, key_of, first_of, count_of}
 use Rattle.directory_insert.specs.Posts.{later, entered, found, stepped}
 use Rattle.directory_insert.proofs.Entered.{length-entered}
 
@@ -67,18 +68,16 @@ stepped_end (suc i) (suc n) (x ∷ s) h = ap (λ (r : List ℕ). x ∷ r) (stepp
 
 -- the loop: those below i are done, and the others are as they were
 pub record Stepping (from n i : ℕ) (first s : List ℕ) : Type 0 where
-  pub least : from ≤ i
   pub long : length s ≡ length first
   pub rest : (j : ℕ) → i ≤ j → get_or s j 0 ≡ get_or first j 0
   pub same_in_the_end : stepped i n s ≡ stepped from n first
 
 pub stepping_start : {from n : ℕ} (s : List ℕ) → Stepping from n from s s
-stepping_start s = record { least = omega arith; long = refl; rest = λ j h. refl; same_in_the_end = refl }
+stepping_start s = record { long = refl; rest = λ j h. refl; same_in_the_end = refl }
 
 module _ {from n i : ℕ} {first s : List ℕ} (g : Stepping from n i first s) where
   pub stepping_next : i < n → Stepping from n (i + 1) first (set s i (get_or s i 0 + 1))
   stepping_next h = record {
-    least = omega (arith, g.least);
     long = length-set s i (get_or s i 0 + 1) ∙ g.long;
     rest = λ j k. get_or-set_other s i j (get_or s i 0 + 1) 0 (λ e. omega arith) ∙ g.rest j (omega arith);
     same_in_the_end = stepped-next i n s h ∙ g.same_in_the_end;
@@ -220,12 +219,3 @@ module _ (k n used : ℕ) (es : List Entry) (len : length es ≡ used) where
         (firsts-later (drop (suc place) es) ∙ ap (map suc) (map-drop first_of (suc place) es ∙ ap (drop (suc place)) m)) (ap (λ (a : List ℕ). get_or a place 0) m)
         ∙ stepped_after place used l place_there r
         ∙ ap (λ (i : ℕ). stepped i used l) (sym (add-one place))
-
--- ---- where the rows of a place begin, or those of a place that would stand past the last
-
-module _ (l : List ℕ) (used at n : ℕ) (r : used ≤ length l) where
-  pub first_there : at < used → get_or l at 0 ≡ get_or (take used l) at n
-  first_there h = get_or-any l at 0 n (omega arith) ∙ sym (get_or-take used l at n h)
-
-  pub first_past : used ≤ at → n ≡ get_or (take used l) at n
-  first_past h = sym (get_or-eq_default (take used l) n (omega (arith, length-take-le used l r)))

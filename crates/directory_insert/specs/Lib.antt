@@ -1,3 +1,2 @@
--- The words of the contract of an insertion into a library that has a directory, and of what its inner functions ask and ensure.
-pub mod Insert
+-- The words of what the inner functions of an insertion into a library that has a directory ask and ensure.
 pub mod Posts

@@ -1,13 +1,15 @@
 -- What the crate's inner functions ask and ensure. Definitions only.
-use Rattle.std.specs.Prelude.{ℕ, zero, suc, ◌^◌, ◌≤◌, ◌<◌, ◌≡◌, Bool, true, false, cond, List, [], ◌∷◌, map, ltb, eqb, length, get_or}
+use Rattle.std.specs.Prelude.{ℕ, zero, suc, ◌+◌, ◌^◌, ◌≤◌, ◌<◌, ◌≡◌, Bool, true, false, cond, List, [], ◌∷◌, map, ltb, eqb, length, take, get_or, Result, Ok, Err}
+use Rattle.std.specs.List.Sorted.{IsNonDecreasing}
 use Rattle.basics.specs.Lists.{over}
 use Rattle.basics.specs.Refusals.{success}
 use Rattle.geometry.specs.declared.Position.{Position}
 use Rattle.table.specs.declared.Row.{Row}
-use Rattle.table.specs.Rows.{slot_of, sorted, put_in}
+use Rattle.table.specs.Rows.{slot_of, sorted, lead, put_in}
 use Rattle.table.specs.Library.{Library, table, write}
-use Rattle.table.specs.Posts.{Rising, Takes, Becomes}
-use Rattle.directory.specs.Entries.{Entry, entry, key_of, first_of, count_of, directory_of}
+use Rattle.table.specs.Posts.{Takes, Becomes}
+use Rattle.directory.specs.declared.Entry.{Entry}
+use Rattle.directory.specs.Entries.{entry, key_of, first_of, count_of, directory_of}
 use Rattle.directory.specs.Directory.{Directory, entries, sound_places}
 use Rattle.directory.specs.Calls.{Filed, filed_by}
 use Rattle.directory.specs.Posts.{PlaceRoom}
@@ -31,6 +33,11 @@ entered key n (e ∷ es) =
 unfoldable pub found : ℕ → List ℕ → Bool
 found key [] = false
 found key (k ∷ ks) = let rest = found key ks in cond (ltb k key) rest (eqb k key)
+
+-- the place of a key, or where it would stand
+abbrev pub FindsPlace : ℕ → List ℕ → Result ℕ ℕ → Type 0
+FindsPlace key keys (Ok at) = (at ≡ lead key keys) × (found key keys ≡ true)
+FindsPlace key keys (Err at) = (at ≡ lead key keys) × (found key keys ≡ false)
 
 -- n is how many places are in use once a mark is in each of the containers, for any rows in order whose directory has these keys
 abbrev pub PlacesAfter : List ℕ → List ℕ → ℕ → Type 0
@@ -58,10 +65,10 @@ write_places es d = record {
 
 -- the places in use are of n rows, keys do not descend, and there is room for one more row of a key
 pub record Enters (key n : ℕ) (d : Directory) : Type 0 where
-  pub rising : Rising d.keys d.used
+  pub rising : IsNonDecreasing (take d.used d.keys)
   pub room : PlaceRoom d d.used
   pub enough : PlaceRoom d (length (entered key n (entries d)))
-  pub few : n < 2 ^ 63
+  pub few : n + 1 < 2 ^ 64
   pub small : (i : ℕ) → i < d.used → (get_or d.firsts i 0 ≤ n) × (get_or d.counts i 0 ≤ n)
 
 -- ---- a library and its directory

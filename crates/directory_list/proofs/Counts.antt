@@ -3,7 +3,6 @@
 use Prim.Native.Nat.{ℕ, zero, suc, ◌+◌, ◌≤◌}
 use native.Mathlib.Omega.{arith}
 use mathlib.Core.Path.{◌≡◌, refl, sym, ap, ◌∙◌, subst}
-use mathlib.Core.Logic.{inr}
 use mathlib.Core.List.{List, [], ◌∷◌, map}
 use lib.ListN.{length, take, drop, length-drop}
 use Rattle.basics.proofs.Lists.{map-tab, tab-take}
@@ -12,8 +11,9 @@ use Rattle.table.specs.Rows.{run, key_in}
 use Rattle.table.specs.Library.{Library, table}
 use Rattle.table.proofs.Libraries.{table-keys}
 use Rattle.rows.proofs.Check.{whole, checked}
-use Rattle.listing.specs.Posts.{Runs, Counted}
-use Rattle.directory.specs.Entries.{Entry, count_of, entries_from, directory_of}
+use Rattle.listing.specs.Posts.{Runs}
+use Rattle.directory.specs.declared.Entry.{Entry}
+use Rattle.directory.specs.Entries.{count_of, entries_from, directory_of}
 use Rattle.directory.specs.Directory.{Directory, entry_at, entries}
 use Rattle.directory.proofs.Entries.{entries-front}
 use Rattle.directory.proofs.Passing.{Passing, place-room}
@@ -45,12 +45,9 @@ entries-counts : (d : Directory) → d.used ≤ length d.counts → map count_of
 unfolding entries
 entries-counts d h = map-tab count_of d.used (entry_at d) ∙ tab-take d.used d.counts 0 h
 
-pub counted : {s : GridSearch} {l : Library} {d : Directory} → Passing s l d → Counted l.keys l.used d.counts d.used
+pub counted : {s : GridSearch} {l : Library} {d : Directory} → Passing s l d → Runs (take d.used d.counts) (take l.used l.keys)
 counted {s} {l} {d} p =
     let room = (place-room d p.places-sound).1.1.0 in
     let counts : map count_of (directory_of (table l)) ≡ take d.used d.counts = ap (map count_of) (sym p.entries-are) ∙ entries-counts d room in
     let keys : map key_in (table l) ≡ take l.used l.keys = table-keys l (checked (whole s l p.library-passes)).room.0 in
-    record {
-      room = room;
-      rest = inr (subst (λ (ks : List ℕ). Runs (take d.used d.counts) ks) keys (subst (λ (cs : List ℕ). Runs cs (map key_in (table l))) counts (of_directory l)));
-    }
+    subst (λ (ks : List ℕ). Runs (take d.used d.counts) ks) keys (subst (λ (cs : List ℕ). Runs cs (map key_in (table l))) counts (of_directory l))

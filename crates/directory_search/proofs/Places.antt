@@ -14,7 +14,8 @@ use Rattle.basics.proofs.Bools.{and_both}
 use Rattle.basics.proofs.Lists.{get_or-tab, map-tab, all_at}
 use Rattle.table.specs.declared.Row.{Row}
 use Rattle.table.specs.Rows.{key_in}
-use Rattle.directory.specs.Entries.{Entry, entry, key_of, directory_of, look_up}
+use Rattle.directory.specs.declared.Entry.{Entry}
+use Rattle.directory.specs.Entries.{entry, key_of, directory_of, look_up}
 use Rattle.directory.specs.Directory.{Directory, entry_at, entries}
 use Rattle.directory.specs.Claims.{lower_rows, rows_within, right, Listing, Finding}
 use Rattle.directory.proofs.Passing.{entries-count}

@@ -1,2 +1,1 @@
--- The words of the contracts of a search through a directory.
-pub mod Posts
+-- A search through a directory says what it answers in the words of `search` and `directory`.

@@ -1,106 +1,73 @@
 // Request e of document 02: the mark at a position, through a directory of the containers.
 #![tactic(auto)]
 
-ghost use Rattle.std.specs.Prelude.{◌≡◌, true};
+ghost use Rattle.std.specs.Prelude.{◌≡◌, ◌+◌, ◌≤◌};
 ghost use Rattle.std.proofs.Math.Option.{none};
-ghost use Rattle.basics.specs.Refusals.{fault, success};
+ghost use Rattle.basics.specs.Refusals.{fault};
 ghost use Rattle.geometry.specs.Position.{coords};
-ghost use Rattle.table.specs.Library.{library, table};
+ghost use Rattle.table.specs.Library.{table};
+ghost use Rattle.table.specs.Lent.{lent};
 ghost use Rattle.rows.specs.Insert.{container_of};
-ghost use Rattle.search.specs.Search.{near_rows, chosen, search_answer, found};
-ghost use Rattle.directory.specs.Directory.{directory};
+ghost use Rattle.search.specs.Search.{near_rows, chosen, search_answer, found, id_of};
+ghost use Rattle.directory.specs.Lent.{kept};
 ghost use Rattle.directory.specs.Calls.{directory_tests, asking};
-ghost use Rattle.directory_search.specs.Posts.{Readable, Reads};
 
-use directory::LookedUp;
-use geometry::Position;
-use grid::Located;
+use basics::Refusal;
+use directory::{Directory, Entry};
+use geometry::{Dimension, Position};
 use grid_search::GridSearch;
-use search::Found;
+use table::{ItemId, Library};
 
-// A container's rows: the first of them, and where they end.
-#[derive(Clone, Copy)]
-struct Stretch {
-    from: usize,
-    end: usize,
-}
-
-// The rows that the directory's entry at a place tells.
-fn rows_at(dir_firsts: &[u64], dir_counts: &[u64], place: usize) -> Stretch
-    requires { Readable dir_firsts.now dir_counts.now place }
-    ensures { Reads dir_firsts.now dir_counts.now place result.from result.end }
+// Where the rows of an entry end.
+fn end_of(entry: Entry) -> usize
+    requires { entry.first + entry.count ≤ 65536 }
+    ensures { result ≡ entry.first + entry.count }
 {
-    let from = dir_firsts[place] as usize;
-    let end = from + dir_counts[place] as usize;
-    Stretch { from, end }
+    entry.first as usize + entry.count as usize
 }
 
 // The choice among the rows near x, which is in the container of a key, where the library and its directory pass their check:
 // the directory tells where the container's rows begin and end, and no others are read.
 fn find_through(
     sheet: GridSearch,
-    keys: &[u64],
-    ids: &[u64],
-    xs: &[f64],
-    ys: &[f64],
-    zs: &[f64],
-    used: usize,
-    dir_keys: &[u64],
-    dir_firsts: &[u64],
-    dir_counts: &[u64],
-    dir_used: usize,
+    library: Library,
+    directory: Directory,
     key: u64,
     x: Position,
-) -> Found
-    requires dir_used_value { fault (directory_tests sheet (library keys.now ids.now xs.now ys.now zs.now used)
-        (directory dir_keys.now dir_firsts.now dir_counts.now dir_used)) ≡ none }
-    requires x_value { container_of sheet (coords sheet.ndim x) ≡ key }
-    ensures { found result ≡ success (chosen sheet (coords sheet.ndim x) (near_rows sheet (coords sheet.ndim x) (table (library keys.now ids.now xs.now ys.now zs.now used)))) }
+) -> Option<ItemId>
+    requires passing { fault (directory_tests sheet (lent library) (kept directory)) ≡ none }
+    requires inside { container_of sheet (coords sheet.ndim x) ≡ key }
+    ensures { id_of result ≡ chosen sheet (coords sheet.ndim x) (near_rows sheet (coords sheet.ndim x) (table (lent library.entry))) }
 {
-    let looked = directory::find_place(dir_keys, dir_used, key);
-    let LookedUp::At(place, _) = looked else {
-        return Found::Nothing;
+    let place = directory::find_place(&directory.keys[..directory.used], key).place?;
+    let entry = directory.entry(place);
+    let rows = Library {
+        used: end_of(entry),
+        ..library
     };
-    let rows = rows_at(dir_firsts, dir_counts, place);
-    search::find_from(sheet, keys, ids, xs, ys, zs, rows.end, key, rows.from, x)
+    search::find_from(sheet, rows, key, entry.first as usize, x)
 }
 
 // The nearest of the marks near a position, as `search::search` finds it, through a directory: past the checks only the rows
 // of the position's container are read. Refused with 24, 13, 29, 2, 3, 11 or 17.
 pub fn search(
     sheet: GridSearch,
-    keys: &[u64],
-    ids: &[u64],
-    xs: &[f64],
-    ys: &[f64],
-    zs: &[f64],
-    used: usize,
-    dir_keys: &[u64],
-    dir_firsts: &[u64],
-    dir_counts: &[u64],
-    dir_used: usize,
+    library: Library,
+    directory: Directory,
     x: &[f64],
-) -> Found
-    ensures { found result ≡ asking sheet (library keys.now ids.now xs.now ys.now zs.now used)
-        (directory dir_keys.now dir_firsts.now dir_counts.now dir_used)
-        (search_answer sheet (library keys.now ids.now xs.now ys.now zs.now used) x.now) }
+) -> Result<Option<ItemId>, Refusal>
+    ensures { found result ≡ asking sheet (lent library.entry) (kept directory.entry) (search_answer sheet (lent library.entry) x.now) }
 {
-    let damage = directory::directory_fault(
-        sheet, keys, ids, xs, ys, zs, used, dir_keys, dir_firsts, dir_counts, dir_used,
-    );
-    if damage != 0 {
-        return Found::Refused(damage);
-    }
-    let fault = rows::position_fault(sheet, x);
-    if fault != 0 {
-        return Found::Refused(fault);
-    }
+    directory::directory_fault(sheet, library, directory)?;
+    rows::position_fault(sheet, x)?;
     let at = Position::new(x);
-    let place = grid::calc_container_key(sheet.ndim, sheet.side_length, sheet.ndiv, sheet.xmin, at);
-    let Located::Key(key) = place else {
-        return Found::Refused(17);
-    };
-    find_through(
-        sheet, keys, ids, xs, ys, zs, used, dir_keys, dir_firsts, dir_counts, dir_used, key.0, at,
-    )
+    let place = grid::calc_container_key(
+        Dimension { n: sheet.ndim },
+        sheet.side_length,
+        sheet.ndiv,
+        sheet.xmin,
+        at,
+    );
+    let key = place.ok_or(Refusal::Ratio)?;
+    Ok(find_through(sheet, library, directory, key.0, at))
 }

@@ -14,7 +14,8 @@ use Rattle.table.specs.declared.Row.{Row}
 use Rattle.table.specs.Rows.{slot_of, key_in, id_in, before, chain, sorted, without}
 use Rattle.table.proofs.Order.{chain-sorted}
 use Rattle.table.proofs.First.{key-le}
-use Rattle.directory.specs.Entries.{Entry, entry, join, entries_from}
+use Rattle.directory.specs.declared.Entry.{Entry}
+use Rattle.directory.specs.Entries.{entry, join, entries_from}
 use Rattle.directory.proofs.Entries.{join-same, join-other, entries-front}
 use Rattle.directory_strike.specs.Posts.{others, thinned, total}
 

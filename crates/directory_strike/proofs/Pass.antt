@@ -1,60 +1,63 @@
 -- The pass over the places: the ids of a place's rows counted, and the places that are left at the front.
 -- Assumes nothing.
-use Prim.Native.Nat.{ℕ, zero, suc, ◌+◌, ◌≤◌, ◌<◌}
+use Prim.Native.Nat.{ℕ, zero, suc, ◌+◌, ◌-◌, ◌≤◌, ◌<◌}
 use native.Mathlib.Omega.{arith}
-use native.Mathlib.Nat.{zero-add, suc-add}
-use native.Mathlib.Decide.{dec_le}
+use native.Mathlib.Nat.{add-zero}
 use native.Mathlib.Numerals.{add-one}
 use mathlib.Core.Path.{◌≡◌, refl, sym, ap, ap₂, ◌∙◌, subst}
-use mathlib.Core.Bool.{true, false, cond}
+use mathlib.Core.Bool.{true, false, not, cond}
 use mathlib.Core.List.{List, [], ◌∷◌, ◌++◌, map, append_assoc, append-nil}
 use lib.Dec.{eqb}
 use lib.ListN.{length, get_or, take, drop, length-map, length-set, length-drop, drop_of_length-le}
-use lib.Seq.{drop-cons, drop-drop, take-nil, slice-cons, slice_empty, length-take-le, get_or-set_same, get_or-set_other}
+use lib.Seq.{drop-cons, drop-drop, length-take-le, get_or-drop, get_or-set_same, get_or-set_other}
+use mir.Val.{bool_byte}
+use Rattle.std.specs.Prelude.{count_by}
+use Rattle.std.proofs.lemmas.List.Recursion.{is_count_by}
 use Rattle.basics.proofs.Bools.{by_test}
-use Rattle.basics.specs.Lists.{tab}
+use Rattle.basics.specs.Lists.{leading, tab}
 use Rattle.basics.proofs.Lists.{length-tab, drop-tab, map-tab, tab-take}
 use Rattle.table.specs.Posts.{Long}
-use Rattle.strike.proofs.Removal.{tab-next, tab-same, entry as same}
-use Rattle.directory.specs.Entries.{Entry, entry, key_of, first_of, count_of}
+use Rattle.strike.proofs.Removal.{leading-before, tab-next, tab-same, entry as same}
+use Rattle.directory.specs.declared.Entry.{Entry}
+use Rattle.directory.specs.Entries.{entry, key_of, first_of, count_of}
 use Rattle.directory.specs.Directory.{Directory, directory, entry_at, entries, places}
-use Rattle.directory.specs.Posts.{PlaceRoom, Fronted, Written}
-use Rattle.directory.proofs.Passing.{entries-count}
-use Rattle.directory_strike.specs.Posts.{others, Quiet, thinned, total, Thins, placed, Placed}
-use Rattle.directory_strike.proofs.Entries.{thinned-length}
+use Rattle.directory.specs.Posts.{PlaceRoom, Fronted, Written, placed}
+use Rattle.directory_strike.specs.Posts.{others, Quiet, thinned, total, Thins}
 
--- ---- ids counted one by one: n of those before i are others
+-- ---- how many ids are others
 
 others-most : (id : ℕ) (ids : List ℕ) → others id ids ≤ length ids
 unfolding others
 others-most id [] = omega arith
 others-most id (j ∷ ids) = by_test (eqb j id) (λ e. rw e (omega (arith, others-most id ids))) (λ e. rw e (omega (arith, others-most id ids)))
 
-module _ (id n i end : ℕ) (ids : List ℕ) (h : i < end) (k : end ≤ length ids) where
-  pub others-next : n + others id (drop i (take end ids)) ≡ cond (eqb (get_or ids i 0) id) n (n + 1) + others id (drop (i + 1) (take end ids))
-  unfolding others
-  others-next = by_test (eqb (get_or ids i 0) id) (λ e. rw (e, add-one i, slice-cons i end ids 0 h k, e)) (λ e. rw (e, add-one i, slice-cons i end ids 0 h k, e) (omega arith))
-
-pub others_end : (id i end : ℕ) (ids : List ℕ) → i ≤ end → end ≤ i → others id (drop i (take end ids)) ≡ 0
+-- as the library's filter counts them
+pub others-count : (id : ℕ) (ids : List ℕ) → others id ids ≡ count_by (λ j. not (eqb j id)) ids
 unfolding others
-others_end id i end ids h k = let e : i ≡ end = omega arith in rw (e, slice_empty end ids)
-
-pub part_is : {A : Type 0} (row count : ℕ) (ids : List A) → drop row (take (row + count) ids) ≡ take count (drop row ids)
-part_is zero count ids = rw zero-add
-part_is (suc row) count [] = rw suc-add (sym (take-nil count))
-part_is (suc row) count (x ∷ ids) = rw suc-add (part_is row count ids)
+others-count id ids = is_count_by (others id) (λ j. not (eqb j id)) refl (λ j js. by_test (eqb j id) (λ e. rw e) (λ e. rw e (omega arith))) ids
 
 -- ---- rows of other ids alone
 
 pub quiet-later : {id from later end : ℕ} {ids : List ℕ} → from ≤ later → Quiet id from end ids → Quiet id later end ids
 quiet-later h q = record { other = λ j k l. q.other j (omega arith) l }
 
-pub quiet_next : {id from i : ℕ} {ids : List ℕ} → Quiet id from i ids → eqb (get_or ids i 0) id ≡ false → Quiet id from (i + 1) ids
-quiet_next {id} {from} {i} {ids} q e = record { other = λ j k l. go j k l (dec_le i j) }
+-- up to the first that a search from there finds, or to the end
+quiet-leading : {id from n : ℕ} (ids : List ℕ) → n ≤ leading id (drop from ids) → Quiet id from (from + n) ids
+quiet-leading {id} {from} {n} ids h = record { other = other }
   where
-    go : (j : ℕ) → from ≤ j → j < i + 1 → Dec (i ≤ j) → eqb (get_or ids j 0) id ≡ false
-    go j k l (yes g) = let here : i ≡ j = omega arith in subst (λ (n : ℕ). eqb (get_or ids n 0) id ≡ false) here e
-    go j k l (no g) = q.other j k (omega arith)
+    other : (j : ℕ) → from ≤ j → j < from + n → eqb (get_or ids j 0) id ≡ false
+    other j k l =
+        let m : from + (j - from) ≡ j = omega arith in
+        ap (λ (i : ℕ). eqb (get_or ids i 0) id) (sym m) ∙ ap (λ (i : ℕ). eqb i id) (sym (get_or-drop from ids (j - from) 0)) ∙ leading-before id (drop from ids) (j - from) (omega arith)
+
+module _ {id from : ℕ} (ids : List ℕ) (h : from ≤ length ids) where
+  pub quiet-found : {n : ℕ} → leading id (drop from ids) ≡ n → Quiet id from (from + n) ids
+  quiet-found e = quiet-leading ids (omega (arith, e))
+
+  pub quiet-none : leading id (drop from ids) ≡ length (drop from ids) → Quiet id from (length ids) ids
+  quiet-none e =
+      let m : from + length (drop from ids) ≡ length ids = omega (arith, length-drop from ids) in
+      subst (λ (n : ℕ). Quiet id from n ids) m (quiet-leading ids (omega (arith, e)))
 
 quiet_all : (id : ℕ) (count row end : ℕ) (ids : List ℕ) → row + count ≤ end → row + count ≤ length ids → Quiet id row end ids → others id (take count (drop row ids)) ≡ count
 unfolding others
@@ -76,12 +79,13 @@ pub record Thinning (id at i row first : ℕ) (ids : List ℕ) (d now : Director
   pub front : thinned id 0 (entries d) ids ≡ tab at (entry_at now) ++ thinned id first (drop i (entries d)) (drop row ids)
   pub rest : (j : ℕ) → i ≤ j → entry_at now j ≡ entry_at d j
   pub lengths-are : places now ≡ places d
+  pub used-is : now.used ≡ d.used
 
 -- the directory with another used count
 abbrev pub counting : ℕ → Directory → Directory
 counting n d = directory d.keys d.firsts d.counts n
 
-pub thinning_start : {id from used : ℕ} {ids : List ℕ} (d : Directory) → Thins id from used ids d → Thinning id 0 0 0 0 ids d (counting 0 d)
+pub thinning_start : {id from : ℕ} {ids : List ℕ} (d : Directory) → Thins id from ids d → Thinning id 0 0 0 0 ids d d
 thinning_start d s = record {
   upto = omega arith;
   lower = omega arith;
@@ -90,6 +94,7 @@ thinning_start d s = record {
   front = refl;
   rest = λ j h. refl;
   lengths-are = refl;
+  used-is = refl;
 }
 
 -- the lists are as long as they were
@@ -129,24 +134,24 @@ module _ {id at i row first : ℕ} {ids : List ℕ} {d now : Directory} (g : Thi
         (entry (get_or now.keys i 0) first left ∷ thinned id (first + left) (drop (i + 1) (entries d)) (drop (row + count) ids))
     behind = ap (λ (es : List Entry). thinned id first es (drop row ids)) from_here ∙ unfold thinned in rw (← q, drop-drop)
 
-    pub thinning_next : {r : ℕ} {after : Directory} → PlaceRoom d d.used → Placed at i first left r now after → Thinning id r (i + 1) (row + count) (first + left) ids d after
-    thinning_next {r} {after} room p = by_test (eqb left 0) gone kept
-      where
-        e : Entry
-        e = entry (get_or now.keys i 0) first left
+    abbrev e : Entry
+    e = entry (get_or now.keys i 0) first left
 
+    pub thinning-next : {r : ℕ} {after : Directory} → PlaceRoom d d.used → after ≡ placed at e now → r ≡ at + bool_byte (not (eqb left 0)) → Thinning id r (i + 1) (row + count) (first + left) ids d after
+    thinning-next {r} {after} room moved next = by_test (eqb left 0) gone kept
+      where
         front_kept : tab at (entry_at after) ≡ tab at (entry_at now)
-        front_kept = rw p.moved (tab-same at (entry_at (placed at e now)) (entry_at now) (λ j k. placed-other at e now j (λ z. omega arith)))
+        front_kept = rw moved (tab-same at (entry_at (placed at e now)) (entry_at now) (λ j k. placed-other at e now j (λ z. omega arith)))
 
         rest_kept : (j : ℕ) → i + 1 ≤ j → entry_at after j ≡ entry_at d j
-        rest_kept j k = ap (λ (m : Directory). entry_at m j) p.moved ∙ placed-other at e now j (λ z. omega (arith, g.lower)) ∙ g.rest j (omega arith)
+        rest_kept j k = ap (λ (m : Directory). entry_at m j) moved ∙ placed-other at e now j (λ z. omega (arith, g.lower)) ∙ g.rest j (omega arith)
 
         lengths_kept : places after ≡ places d
-        lengths_kept = ap places p.moved ∙ placed-lengths at e now ∙ g.lengths-are
+        lengths_kept = ap places moved ∙ placed-lengths at e now ∙ g.lengths-are
 
         gone : eqb left 0 ≡ true → Thinning id r (i + 1) (row + count) (first + left) ids d after
         gone z =
-            let n : r ≡ at = p.next ∙ rw z in
+            let n : r ≡ at = next ∙ rw (z, add-zero) in
             record {
               upto = omega arith;
               lower = omega (arith, g.lower);
@@ -155,12 +160,13 @@ module _ {id at i row first : ℕ} {ids : List ℕ} {d now : Directory} (g : Thi
               front = g.front ∙ rw n (ap₂ (λ (a b : List Entry). a ++ b) (sym front_kept) (behind ∙ rw z));
               rest = rest_kept;
               lengths-are = lengths_kept;
+              used-is = ap (λ (m : Directory). m.used) moved ∙ g.used-is;
             }
 
         kept : eqb left 0 ≡ false → Thinning id r (i + 1) (row + count) (first + left) ids d after
         kept z =
-            let n : r ≡ at + 1 = p.next ∙ rw z in
-            let there : entry_at after at ≡ e = ap (λ (m : Directory). entry_at m at) p.moved ∙ placed_there at e now (wide g.lower) in
+            let n : r ≡ at + 1 = next ∙ rw z in
+            let there : entry_at after at ≡ e = ap (λ (m : Directory). entry_at m at) moved ∙ placed_there at e now (wide g.lower) in
             let last : tab (at + 1) (entry_at after) ≡ tab at (entry_at now) ++ e ∷ [] =
             rw add-one (tab-next at (entry_at after)) ∙ ap₂ (λ (a : List Entry) (x : Entry). a ++ x ∷ []) front_kept there in
             record {
@@ -171,6 +177,7 @@ module _ {id at i row first : ℕ} {ids : List ℕ} {d now : Directory} (g : Thi
               front = g.front ∙ rw (n, last, append_assoc) (ap (λ (a : List Entry). tab at (entry_at now) ++ a) (behind ∙ rw z));
               rest = rest_kept;
               lengths-are = lengths_kept;
+              used-is = ap (λ (m : Directory). m.used) moved ∙ g.used-is;
             }
           where
             wide : at ≤ i → PlaceRoom now (at + 1)
@@ -201,9 +208,3 @@ module _ {id at i row first : ℕ} {ids : List ℕ} {d now : Directory} (g : Thi
         firsts = fronted first_of d.firsts now.firsts (map-tab first_of at (entry_at now) ∙ tab-take at now.firsts 0 r.1.0) (same 1 g.lengths-are);
         counts = fronted count_of d.counts now.counts (map-tab count_of at (entry_at now) ∙ tab-take at now.counts 0 r.1.1.0) (same 2 g.lengths-are);
       }
-
--- the lists have room for the places that are left
-pub left_room : (id : ℕ) (ids : List ℕ) (d now : Directory) → PlaceRoom d d.used → Written (thinned id 0 (entries d) ids) d now → PlaceRoom now now.used
-left_room id ids d now room w =
-    let m : now.used ≤ d.used = omega (arith, w.count, thinned-length id 0 (entries d) ids, entries-count d) in
-    (omega (arith, w.keys.long), (omega (arith, w.firsts.long), (omega (arith, w.counts.long), tt)))

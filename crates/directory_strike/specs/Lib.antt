@@ -1,3 +1,2 @@
--- The words of the contract of a striking with a directory, and of what its inner functions ask and ensure.
-pub mod Strike
+-- The words of what the inner functions of a striking with a directory ask and ensure.
 pub mod Posts

@@ -1,7 +1,8 @@
 -- What the crate's inner functions ask and ensure. Definitions only.
-use Rattle.std.specs.Prelude.{ℕ, suc, ◌+◌, ◌≤◌, ◌<◌, ◌≡◌, false, cond, List, [], ◌∷◌, eqb, length, get_or, set, take, drop}
-use Rattle.directory.specs.Entries.{Entry, entry}
-use Rattle.directory.specs.Directory.{Directory, directory, entries}
+use Rattle.std.specs.Prelude.{ℕ, suc, ◌+◌, ◌≤◌, ◌<◌, ◌≡◌, false, cond, List, [], ◌∷◌, eqb, length, get_or, take, drop}
+use Rattle.directory.specs.declared.Entry.{Entry}
+use Rattle.directory.specs.Entries.{entry}
+use Rattle.directory.specs.Directory.{Directory, entries}
 use Rattle.directory.specs.Posts.{PlaceRoom}
 
 -- how many of the ids are others
@@ -29,17 +30,7 @@ total [] = 0
 total (e ∷ es) = e.count + total es
 
 -- the lists hold the places in use, and these count no more rows than there are ids; none of the first `from` rows is of the id
-pub record Thins (id from used : ℕ) (ids : List ℕ) (d : Directory) : Type 0 where
+pub record Thins (id from : ℕ) (ids : List ℕ) (d : Directory) : Type 0 where
   pub room : PlaceRoom d d.used
   pub rows : total (entries d) ≤ length ids
-  pub used-are : used ≤ length ids
   pub quiet : Quiet id 0 from ids
-
--- an entry is written at an index
-abbrev pub placed : ℕ → Entry → Directory → Directory
-placed at e d = directory (set d.keys at e.key) (set d.firsts at e.first) (set d.counts at e.count) d.used
-
--- place i is written at an index, with its first row and its number of rows, and r is that index where it has none, and else the next
-pub record Placed (at i first left r : ℕ) (d after : Directory) : Type 0 where
-  pub moved : after ≡ placed at (entry (get_or d.keys i 0) first left) d
-  pub next : r ≡ cond (eqb left 0) at (at + 1)

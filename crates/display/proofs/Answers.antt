@@ -1,37 +1,40 @@
 -- The answers, by the tests that led to them.
 -- Assumes nothing.
 use Prim.Native.Nat.{ℕ, ◌≤◌, ◌<◌}
-use native.Mathlib.Omega.{arith}
-use mathlib.Core.Path.{◌≡◌, refl, ap}
+use mathlib.Core.Path.{◌≡◌, sym, ap}
+use mathlib.Core.Bool.{true}
 use mathlib.Core.Option.{Option, none, some}
 use mathlib.Core.List.{List, [], ◌∷◌}
 use lib.Dec.{ltb}
 use lib.ListN.{length}
 use borrow.Author.Tests.{lt-ltb, le-ltb, ltb-false}
+use Rattle.std.specs.Prelude.{Result, Ok, Err}
 use Rattle.basics.proofs.Bools.{or_left}
 use Rattle.basics.specs.Lists.{any, over}
 use Rattle.basics.specs.Filled.{fill}
-use Rattle.basics.specs.Refusals.{Test, refuse, fault, code, success}
-use Rattle.basics.proofs.Refusals.{unrefused, fault_stop, fault-right, code-some}
+use Rattle.basics.specs.Refusals.{Test, refuse, fault, success}
+use Rattle.basics.specs.Answers.{refusal_number}
+use Rattle.basics.specs.declared.Refusal.{Refusal}
+use Rattle.basics.specs.declared.Refusal.TheVariants.{Short}
+use Rattle.basics.proofs.Answers.{Raised, raised_answer}
+use Rattle.basics.proofs.Refusals.{unrefused, fault_stop, fault-right}
 use Rattle.grid.specs.Divisions.{counts}
 use Rattle.grid_search.specs.declared.GridSearch.{GridSearch}
+use Rattle.geometry.specs.Position.{dimension}
 use Rattle.table.specs.Rows.{slots_of}
-use Rattle.table.proofs.Libraries.{slots_table}
+use Rattle.table.specs.Posts.{Ordered}
+use Rattle.table.proofs.Libraries.{slots_table, ordered}
+use Rattle.rows.proofs.Check.{whole, in_order, divided}
 use Rattle.table.specs.Library.{Library, table, too_long, space}
 use Rattle.rows.specs.Damage.{library_tests}
-use Rattle.display.specs.declared.Shown.TheVariants.{Length, Refused}
 use Rattle.display.specs.Display.{slots_text, display_text, display_tests, showing, Shows}
 use Rattle.display.specs.Posts.{fitted}
 
-pub nothing : (l : List ℕ) → length l ≡ 0 → l ≡ []
-nothing [] e = refl
-nothing (x ∷ l) e = absurd (omega arith)
-
-pub too_short : (text buffer exit : List ℕ) → length buffer < length text → exit ≡ buffer → Shows (fitted text buffer) (Refused 14) exit
+pub too_short : (text buffer exit : List ℕ) → length buffer < length text → exit ≡ buffer → Shows (fitted text buffer) (Err Short) exit
 unfolding fault fill
 too_short text buffer exit h e = record { answers = rw (lt-ltb (length buffer) (length text) h); buffer_is = rw (lt-ltb (length buffer) (length text) h) e }
 
-pub fits : (text buffer exit : List ℕ) (n : ℕ) → length text ≤ length buffer → n ≡ length text → exit ≡ over text buffer → Shows (fitted text buffer) (Length n) exit
+pub fits : (text buffer exit : List ℕ) (n : ℕ) → length text ≤ length buffer → n ≡ length text → exit ≡ over text buffer → Shows (fitted text buffer) (Ok n) exit
 unfolding fault fill
 fits text buffer exit n h c e = record { answers = rw (le-ltb (length buffer) (length text) h) (ap success c); buffer_is = rw (le-ltb (length buffer) (length text) h) e }
 
@@ -41,20 +44,29 @@ module _ (s : GridSearch) (l : Library) (buffer : List ℕ) where
   last_test : List Test
   last_test = refuse 14 (ltb (length buffer) (length (display_text s (table l)))) ∷ []
 
-  pub refused-library : (n : ℕ) → n ≡ code (fault (library_tests s l)) → (n ≡ 0 → ⊥) → Shows (showing s l buffer) (Refused n) buffer
+  pub refused_library : (e : Refusal) (r : Result ℕ Refusal) → some (refusal_number e) ≡ fault (library_tests s l) → Raised e r → Shows (showing s l buffer) r buffer
   unfolding showing display_tests fill last_test
-  refused-library n e h =
-      let stops : fault (display_tests s l (length buffer)) ≡ some n = fault_stop (library_tests s l) last_test n (code-some (fault (library_tests s l)) n e h) in
-      record { answers = rw stops; buffer_is = rw stops }
+  refused_library e r h k =
+      let stops : fault (display_tests s l (length buffer)) ≡ some (refusal_number e) = fault_stop (library_tests s l) last_test (refusal_number e) (sym h) in
+      record { answers = rw stops (raised_answer (λ n. n) e r k); buffer_is = rw stops }
 
-  pub past-library : fault (library_tests s l) ≡ none → showing s l buffer ≡ fitted (display_text s (table l)) buffer
+  pub past_library : fault (library_tests s l) ≡ none → showing s l buffer ≡ fitted (display_text s (table l)) buffer
   unfolding showing display_tests last_test
-  past-library e = ap (λ (o : Option ℕ). fill o (display_text s (table l)) buffer) (fault-right (library_tests s l) last_test e)
+  past_library e = ap (λ (o : Option ℕ). fill o (display_text s (table l)) buffer) (fault-right (library_tests s l) last_test e)
 
-  -- 24 is not the case: no list is longer than 65,536
-  pub few : fault (library_tests s l) ≡ none → length l.keys ≤ 65536
+-- ---- what is known of a library that passes 24 and 13
+
+module _ (s : GridSearch) (l : Library) (e : fault (library_tests s l) ≡ none) where
+  pub axes : dimension s.ndim ≡ true
+  axes = (divided s (whole s l e).sheet).axes
+
+  pub in_turn : Ordered l.keys l.ids l.used
+  in_turn = ordered (in_order (whole s l e))
+
+  -- no list is longer than 65,536
+  pub few : length l.keys ≤ 65536
   unfolding library_tests too_long space any
-  few e = ltb-false 65536 (length l.keys) (or_left _ _ (unrefused (library_tests s l) e).0)
+  few = ltb-false 65536 (length l.keys) (or_left _ _ (unrefused (library_tests s l) e).0)
 
 pub text_of_slots : (s : GridSearch) (l : Library) → display_text s (table l) ≡ slots_text (counts s.ndim s.ndiv) (slots_of l.keys l.ids l.used)
 unfolding display_text

@@ -4,26 +4,22 @@ use Prim.Native.Nat.{ℕ, zero, suc, ◌+◌, ◌*◌, ◌^◌, ◌≤◌, ◌<�
 use native.Mathlib.Omega.{arith}
 use mathlib.Core.Path.{◌≡◌, refl}
 use mathlib.Core.Bool.{Bool, true, cond, ◌&&◌}
-use mathlib.Core.List.{List, [], ◌∷◌, ◌++◌, map}
+use mathlib.Core.List.{List, [], ◌∷◌, map}
 use lib.Dec.{ltb, eqb}
 use lib.Arith.{lt_of_le-ne}
 use lib.ListN.{length, get_or, length-append, length-map}
 use borrow.Author.Tests.{lt-ltb, ne_eqb, ltb-true, ltb-false, eqb-true, eqb-false}
+use Rattle.std.proofs.Common.{Fits, w64}
 use Rattle.basics.proofs.Bools.{by_test, both, and_left, and_right}
-use Rattle.basics.specs.Lists.{all, keep, tab, enter}
-use Rattle.basics.proofs.Lists.{length-tab, get_or-tab}
-use Rattle.geometry.proofs.Axes.{few-axes}
+use Rattle.basics.specs.Lists.{all, keep, enter}
+use Rattle.basics.proofs.Lists.{length-tab, all-tab}
 use Rattle.display.proofs.Kept.{all_by, all_weaker}
-use Rattle.geometry.specs.Position.{dimension}
-use Rattle.grid.specs.declared.Divisions.{Divisions}
-use Rattle.grid.specs.Divisions.{counts, division}
-use Rattle.grid.proofs.Bounds.{in_range}
 use Rattle.table.specs.Rows.{Slot, slot_at, slots_of}
 use Rattle.sorting.specs.Sorted.{distinct}
 use Rattle.text.specs.Text.{ascii, decimal, entry_text, entries, list_text}
 use Rattle.text.proofs.Laws.{decimal_20, list_length}
-use Rattle.display.specs.Display.{keys_in, ids_in, in_container, line, lines_of, named, summary, slots_text}
-use Rattle.display.proofs.Texts.{line-length, named-length, whole_length, counts-length}
+use Rattle.display.specs.Display.{keys_in, ids_in, in_container, line, lines_of, summary, slots_text, most_bytes}
+use Rattle.display.proofs.Texts.{line_length, named_length, summary_length, whole_length}
 use Rattle.display.proofs.Runs.{above, enter-above}
 
 -- ---- numbers ascending, once each
@@ -196,7 +192,7 @@ module _ (slots : List Slot) (good : all words slots ≡ true) where
       omega (
         arith,
         length-append (line k (ids_in (in_container k slots))) (lines_of slots ks),
-        line-length k (ids_in (in_container k slots)),
+        line_length k (ids_in (in_container k slots)),
         decimal_20 k (ltb-true k (2 ^ 64) (and_left (word k) (all word ks) e)),
         ids_bound (in_container k slots) (container_words k slots good),
         lines_bound ks (and_right (word k) (all word ks) e),
@@ -207,17 +203,14 @@ module _ (slots : List Slot) (good : all words slots ≡ true) where
 
   summary-most : (divisions : List ℕ) → all word divisions ≡ true → length divisions ≤ 3 → length slots < 2 ^ 64
       → length (summary slots divisions) ≤ 22 * length slots + 148
-  unfolding summary
   summary-most divisions e h l =
       omega (
         arith,
-        length-append (named (ascii "ids") (list_text (ids_in slots))) (named (ascii "nitem") (decimal (length (ids_in slots))) ++ (named (ascii "ncontainer") (decimal (length (keys_in slots))) ++ named (ascii "ndiv") (list_text divisions))),
-        length-append (named (ascii "nitem") (decimal (length (ids_in slots)))) (named (ascii "ncontainer") (decimal (length (keys_in slots))) ++ named (ascii "ndiv") (list_text divisions)),
-        length-append (named (ascii "ncontainer") (decimal (length (keys_in slots)))) (named (ascii "ndiv") (list_text divisions)),
-        named-length (ascii "ids") (list_text (ids_in slots)),
-        named-length (ascii "nitem") (decimal (length (ids_in slots))),
-        named-length (ascii "ncontainer") (decimal (length (keys_in slots))),
-        named-length (ascii "ndiv") (list_text divisions),
+        summary_length slots divisions,
+        named_length (ascii "ids") (list_text (ids_in slots)),
+        named_length (ascii "nitem") (decimal (length (ids_in slots))),
+        named_length (ascii "ncontainer") (decimal (length (keys_in slots))),
+        named_length (ascii "ndiv") (list_text divisions),
         ids_bound slots good,
         decimal_20 (length (ids_in slots)) (omega (arith, ids-length slots)),
         decimal_20 (length (keys_in slots)) (omega (arith, keys_length slots)),
@@ -226,32 +219,20 @@ module _ (slots : List Slot) (good : all words slots ≡ true) where
 
 -- ---- the whole text
 
-slots_words : (keys ids : List ℕ) (used : ℕ) → ((i : ℕ) → get_or keys i 0 < 2 ^ 64) → ((i : ℕ) → get_or ids i 0 < 2 ^ 64) → all words (slots_of keys ids used) ≡ true
+slots_words : (keys ids : List ℕ) (used : ℕ) → ((i : ℕ) → Fits w64 (get_or keys i 0)) → ((i : ℕ) → Fits w64 (get_or ids i 0)) → all words (slots_of keys ids used) ≡ true
 unfolding slots_of
-slots_words keys ids used h k = all_by words (tab used (slot_at keys ids)) (slot_at keys ids 0) each
-  where
-    each : (i : ℕ) → i < length (tab used (slot_at keys ids)) → words (get_or (tab used (slot_at keys ids)) i (slot_at keys ids 0)) ≡ true
-    each i l =
-        rw (get_or-tab used (slot_at keys ids) i (slot_at keys ids 0) (rw (length-tab used (slot_at keys ids)) at l))
-        (both (lt-ltb (get_or keys i 0) (2 ^ 64) (h i)) (lt-ltb (get_or ids i 0) (2 ^ 64) (k i)))
+slots_words keys ids used h k = all-tab words used (slot_at keys ids) (λ i l. both (lt-ltb (get_or keys i 0) (2 ^ 64) (h i).fits) (lt-ltb (get_or ids i 0) (2 ^ 64) (k i).fits))
 
 length_slots : (keys ids : List ℕ) (used : ℕ) → length (slots_of keys ids used) ≡ used
 unfolding slots_of
 length_slots keys ids used = length-tab used (slot_at keys ids)
 
-division_word : (n : ℕ) → division n ≡ true → word n ≡ true
-division_word n e = let r = in_range n e in lt-ltb n (2 ^ 64) (omega (arith, r.most))
-
-pub whole-most : (keys ids : List ℕ) (used n : ℕ) (d : Divisions) → ((i : ℕ) → get_or keys i 0 < 2 ^ 64) → ((i : ℕ) → get_or ids i 0 < 2 ^ 64) → used ≤ 65536
-    → dimension n ≡ true → all division (counts n d) ≡ true → length (slots_text (counts n d) (slots_of keys ids used)) ≤ 69 * used + 148
-whole-most keys ids used n d h k u e f =
-    let slots = slots_of keys ids used in
-    let good = slots_words keys ids used h k in
-    let long = length_slots keys ids used in
-    omega (
-      arith,
-      whole_length (counts n d) slots,
-      lines-most slots good,
-      summary-most slots good (counts n d) (all_weaker division word (counts n d) division_word f) (omega (arith, counts-length n d e, few-axes n e)) (omega (arith, long)),
-      long,
-    )
+-- of any few divisions and rows
+pub whole_room : (divisions keys ids : List ℕ) → ((i : ℕ) → Fits w64 (get_or divisions i 0)) → ((i : ℕ) → Fits w64 (get_or keys i 0)) → ((i : ℕ) → Fits w64 (get_or ids i 0))
+    → length divisions ≤ 3 → length keys ≤ 65536 → length (slots_text divisions (slots_of keys ids (length keys))) ≤ most_bytes (length keys)
+whole_room divisions keys ids w h k e u =
+    let slots = slots_of keys ids (length keys) in
+    let good = slots_words keys ids (length keys) h k in
+    let long = length_slots keys ids (length keys) in
+    let numbers = all_by word divisions 0 (λ i l. lt-ltb (get_or divisions i 0) (2 ^ 64) (w i).fits) in
+    omega (arith, whole_length divisions slots, lines-most slots good, summary-most slots good divisions numbers e (omega (arith, long)), long)

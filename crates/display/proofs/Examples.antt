@@ -5,8 +5,7 @@ use Rattle.floats.specs.Rounded.{zero_f}
 use Rattle.table.specs.declared.Row.{Row}
 use Rattle.table.specs.Rows.{row_of}
 use Rattle.text.specs.Text.{ascii}
-use Rattle.grid_search.specs.declared.GivenU64.TheVariants as number
-use Rattle.grid_search.specs.declared.GivenF64.TheVariants as float
+use Rattle.std.specs.Prelude.{Some, None}
 use Rattle.grid_search.specs.declared.GridSearch.{GridSearch}
 use Rattle.display.specs.Display.{display_text}
 
@@ -15,9 +14,9 @@ sheet = record {
   ndim = 2;
   low = record { x = zero_f; y = zero_f; z = zero_f };
   high = record { x = zero_f; y = zero_f; z = zero_f };
-  number = number.Given 8;
-  tolerance = float.LeftOut;
-  border_tol = float.LeftOut;
+  number = Some 8;
+  tolerance = None;
+  border_tol = None;
   ndiv = record { x = 8; y = 4; z = 1 };
   xmin = record { x = zero_f; y = zero_f; z = zero_f };
   xmax = record { x = zero_f; y = zero_f; z = zero_f };

@@ -3,5 +3,8 @@ pub mod Kept
 pub mod Runs
 pub mod Texts
 pub mod Bounds
+pub mod Walks
+pub mod Picks
+pub mod Cuts
 pub mod Answers
 pub mod Examples

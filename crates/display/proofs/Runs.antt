@@ -1,25 +1,26 @@
 -- Rows in order: the rows of one container stand together, so its line is made of a run of them.
 -- Assumes nothing.
-use Prim.Native.Nat.{ℕ, zero, suc, ◌+◌, ◌-◌, ◌≤◌, ◌<◌}
-use native.Mathlib.Nat.{le_of_lt, add-zero, sub-zero, zero-sub, suc-sub-suc}
+use Prim.Native.Nat.{ℕ, zero, suc, ◌+◌, ◌-◌, ◌<◌}
+use native.Mathlib.Numerals.{add-one}
 use native.Mathlib.Omega.{arith}
 use mathlib.Core.Path.{◌≡◌, refl, sym, ap, ◌∙◌}
 use mathlib.Core.Bool.{Bool, true, not}
 use mathlib.Core.List.{List, [], ◌∷◌, ◌++◌, map, append-nil}
 use lib.Dec.{ltb, eqb}
-use lib.ListN.{length, get_or, take, drop, length-take, length-drop, take-append-drop, drop_of_length-le}
-use lib.Seq.{take-nil, take-take, drop-drop, drop-cons, get_or-take, get_or-drop}
+use lib.ListN.{length, get_or, length-append, get_or-append}
+use lib.Seq.{take_all, get_or-append-add}
 use lib.Arith.{lt_of_le-ne}
-use borrow.Author.Tests.{lt-ltb, le-ltb, eq-eqb, ne_eqb, ltb-true, eqb-true}
-use Rattle.basics.proofs.Bools.{by_test, clash, both, and_left, and_right}
-use Rattle.basics.specs.Lists.{all, keep, tab, enter}
-use Rattle.basics.proofs.Lists.{length-tab, get_or-tab, drop-tab, tab-take, map-tab, map-take, map-drop}
-use Rattle.display.proofs.Kept.{all_by, all_weaker, keep_append, keep_all, keep-none}
-use Rattle.table.specs.Rows.{Slot, slot_at, slots_of, before, chain, sorted}
+use borrow.Author.Tests.{lt-ltb, le-ltb, eq-eqb, ne_eqb, ltb-true, eqb-true, eqb-false}
+use Rattle.std.specs.List.{IsChunkByPrefix}
+use Rattle.basics.proofs.Bools.{by_test, both, and_left, and_right}
+use Rattle.basics.specs.Lists.{all, keep, enter}
+use Rattle.basics.proofs.Lists.{all-tab, tab-take, map-tab}
+use Rattle.display.proofs.Kept.{all_weaker, keep_append, keep_all, keep-none}
+use Rattle.table.specs.Rows.{Slot, slotted, slot_at, slots_of, before, chain, sorted}
 use Rattle.table.specs.Posts.{Ordered}
-use Rattle.table.proofs.Order.{chain-sorted, sorted_at}
+use Rattle.table.proofs.Order.{chain-sorted}
+use Rattle.table.proofs.First.{rise}
 use Rattle.sorting.specs.Sorted.{distinct}
-use Rattle.display.specs.Posts.{Run}
 use Rattle.display.specs.Display.{keys_in, ids_in, in_container, line, lines_of}
 
 -- ---- numbers ascending, once each
@@ -147,135 +148,100 @@ module _ (k : ℕ) (p : Slot) (run rest : List Slot) (same : all (of_key k) (p �
         lines_rest k rest higher (p ∷ run) (keys_in rest) same (above-keys k rest higher),
       )
 
--- ---- by index
+-- ---- keys and ids side by side
 
-drop-take : {A : Type 0} (i n : ℕ) (l : List A) → drop i (take n l) ≡ take (n - i) (drop i l)
-drop-take zero n l = rw sub-zero
-drop-take (suc i) zero l = rw zero-sub
-drop-take (suc i) (suc n) [] = sym (take-nil (suc n - suc i))
-drop-take (suc i) (suc n) (x ∷ l) = rw suc-sub-suc (drop-take i n l)
+abbrev pub pairs : List ℕ → List ℕ → List Slot
+pairs keys ids = slots_of keys ids (length keys)
+
+pairs_append : (run front keys ids : List ℕ) → length front ≡ length run → pairs (run ++ keys) (front ++ ids) ≡ pairs run front ++ pairs keys ids
+unfolding slots_of
+pairs_append [] [] keys ids e = refl
+pairs_append [] (i ∷ front) keys ids e = absurd (omega arith)
+pairs_append (k ∷ run) [] keys ids e = absurd (omega arith)
+pairs_append (k ∷ run) (i ∷ front) keys ids e = ap (λ (l : List Slot). slotted k i ∷ l) (pairs_append run front keys ids (omega arith))
+
+pub pairs_ids : (keys ids : List ℕ) → length keys ≡ length ids → map (λ (q : Slot). q.id) (pairs keys ids) ≡ ids
+unfolding slots_of
+pairs_ids keys ids e =
+    map-tab (λ (q : Slot). q.id) (length keys) (slot_at keys ids) ∙ tab-take (length keys) ids 0 (omega arith) ∙ take_all (length keys) ids (omega arith)
+
+-- a test of each key is one of each slot
+pairs_all : (p : Slot → Bool) (keys ids : List ℕ) → ((j : ℕ) → j < length keys → p (slot_at keys ids j) ≡ true) → all p (pairs keys ids) ≡ true
+unfolding slots_of
+pairs_all p keys ids h = all-tab p (length keys) (slot_at keys ids) h
+
+-- ---- the front and the back of slots in order
 
 sorted_tail : (p : Slot) (l : List Slot) → sorted (p ∷ l) ≡ true → sorted l ≡ true
 unfolding sorted
 sorted_tail p l e = chain-sorted p l e
 
-sorted-drop : (i : ℕ) (l : List Slot) → sorted l ≡ true → sorted (drop i l) ≡ true
-sorted-drop zero l e = e
-sorted-drop (suc i) [] e = e
-sorted-drop (suc i) (p ∷ l) e = sorted-drop i l (sorted_tail p l e)
-
-sorted-chain : (p : Slot) (l : List Slot) → sorted (p ∷ l) ≡ true → chain p l ≡ true
-unfolding sorted
-sorted-chain p l e = e
+sorted_after : (a b : List Slot) → sorted (a ++ b) ≡ true → sorted b ≡ true
+sorted_after [] b e = e
+sorted_after (p ∷ a) b e = sorted_after a b (sorted_tail p (a ++ b) e)
 
 chain-front : (p : Slot) (a b : List Slot) → chain p (a ++ b) ≡ true → chain p a ≡ true
 unfolding chain
 chain-front p [] b e = refl
 chain-front p (q ∷ a) b e = both (and_left (before p q) (chain q (a ++ b)) e) (chain-front q a b (and_right (before p q) (chain q (a ++ b)) e))
 
-before-keys : (p q : Slot) → before p q ≡ true → p.key ≤ q.key
-unfolding before
-before-keys p q e =
-    by_test (ltb p.key q.key) (λ f. le_of_lt (ltb-true p.key q.key f))
-    λ f. by_test (eqb p.key q.key) (λ g. omega (arith, eqb-true p.key q.key g)) λ g. clash (rw (f, g) at e) refl
+-- ---- keys of one container, and what follows them
 
-module _ (keys ids : List ℕ) (used : ℕ) where
-  pub slots_ids : used ≤ length ids → map (λ (q : Slot). q.id) (slots_of keys ids used) ≡ take used ids
+module _ (k : ℕ) (run keys : List ℕ) (i : ℕ) (front ids : List ℕ) (e : length front ≡ length run)
+    (o : Ordered ((k ∷ run) ++ keys) ((i ∷ front) ++ ids) (length ((k ∷ run) ++ keys))) (p : IsChunkByPrefix eqb ((k ∷ run) ++ keys) (suc (length run))) where
+  abbrev all_keys : List ℕ
+  all_keys = (k ∷ run) ++ keys
+
+  parts : pairs all_keys ((i ∷ front) ++ ids) ≡ (slotted k i ∷ pairs run front) ++ pairs keys ids
   unfolding slots_of
-  slots_ids h = map-tab (λ (q : Slot). q.id) used (slot_at keys ids) ∙ tab-take used ids 0 h
+  parts = pairs_append (k ∷ run) (i ∷ front) keys ids (omega arith)
 
-module _ (keys ids : List ℕ) (used i e : ℕ) (o : Ordered keys ids used) (r : Run keys i used e) where
-  abbrev slots : List Slot
-  slots = slots_of keys ids used
+  -- the keys of the run are one key
+  one_key : (j : ℕ) → j < suc (length run) → get_or all_keys j 0 ≡ k
+  one_key zero h = refl
+  one_key (suc j) h =
+      let next : get_or all_keys j 0 ≡ get_or all_keys (j + 1) 0 = eqb-true (get_or all_keys j 0) (get_or all_keys (j + 1) 0) (p.0 j 0 (omega arith)) in
+      ap (λ (n : ℕ). get_or all_keys n 0) (sym (add-one j)) ∙ sym next ∙ one_key j (omega arith)
 
-  -- the run after its first slot
-  abbrev more : List Slot
-  more = take (e - suc i) (drop (suc i) slots)
-
-  inside : i < used
-  inside = omega (arith, r.some, r.upto)
-
-  length_slots : length slots ≡ used
-  unfolding slots_of
-  length_slots = length-tab used (slot_at keys ids)
-
-  slot_at_lem : (j : ℕ) → j < used → get_or slots j (slot_at keys ids i) ≡ slot_at keys ids j
-  unfolding slots_of
-  slot_at_lem j h = get_or-tab used (slot_at keys ids) j (slot_at keys ids i) h
-
-  first : drop i slots ≡ slot_at keys ids i ∷ drop (suc i) slots
-  unfolding slots_of
-  first = drop-tab used (slot_at keys ids) i inside
-
-  others : drop (suc i) slots ≡ more ++ drop e slots
-  others =
-      let past : suc i + (e - suc i) ≡ e = omega (arith, r.some) in
-      sym (take-append-drop (e - suc i) (drop (suc i) slots))
-      ∙ ap (λ (l : List Slot). more ++ l) (drop-drop (e - suc i) (suc i) slots ∙ ap (λ (j : ℕ). drop j slots) past)
-
-  parts : drop i slots ≡ (slot_at keys ids i ∷ more) ++ drop e slots
-  parts = first ∙ ap (λ (l : List Slot). slot_at keys ids i ∷ l) others
-
-  length_more : length more ≡ e - suc i
-  length_more = simp (length-take, length-drop, length_slots) (omega (arith, r.upto))
-
-  of_one : all (of_key (get_or keys i 0)) (slot_at keys ids i ∷ more) ≡ true
+  of_one : all (of_key k) (slotted k i ∷ pairs run front) ≡ true
   unfolding all
-  of_one = both (eq-eqb (get_or keys i 0) (get_or keys i 0) refl) (all_by (of_key (get_or keys i 0)) more (slot_at keys ids i) each)
+  of_one = both (eq-eqb k k refl) (pairs_all (of_key k) run front (λ j h. eq-eqb (get_or run j 0) k (sym (get_or-append run keys 0 j h) ∙ one_key (suc j) (omega arith))))
+
+  -- those that follow are higher
+  past_one : all (past-key k) (pairs keys ids) ≡ true
+  past_one = pairs_all (past-key k) keys ids (λ j h. lt-ltb k (get_or keys j 0) (omega (arith, higher j h)))
     where
-      each : (j : ℕ) → j < length more → of_key (get_or keys i 0) (get_or more j (slot_at keys ids i)) ≡ true
-      each j h =
-          let short : j < e - suc i = omega (arith, length_more) in
-          rw (get_or-take (e - suc i) (drop (suc i) slots) j (slot_at keys ids i) short, get_or-drop, slot_at_lem (suc i + j) (omega (arith, r.upto)))
-          (eq-eqb (get_or keys (suc i + j) 0) (get_or keys i 0) (r.same (suc i + j) (omega arith) (omega arith)))
+      long : length all_keys ≡ suc (length run) + length keys
+      long = length-append (k ∷ run) keys
 
-  keys-up : (j k : ℕ) → j < k → k < used → get_or keys j 0 ≤ get_or keys k 0
-  unfolding slots_of
-  keys-up j k h l = before-keys (slot_at keys ids j) (slot_at keys ids k) (sorted_at used (slot_at keys ids) o.order j k h l)
+      higher : (j : ℕ) → j < length keys → k < get_or keys j 0
+      higher j h =
+          let n : ℕ = suc (length run) in
+          let last : get_or all_keys (n - 1) 0 ≡ k = one_key (n - 1) (omega arith) in
+          let other = eqb-false (get_or all_keys (n - 1) 0) (get_or all_keys n 0) (p.1 (omega (arith, long)) 0) in
+          let up = rise o (n - 1) n (omega arith) (omega (arith, long)) in
+          let on = rise o n (n + j) (omega arith) (omega (arith, long)) in
+          let there : get_or all_keys (n + j) 0 ≡ get_or keys j 0 = get_or-append-add (k ∷ run) keys j 0 in
+          omega (arith, lt_of_le-ne up other)
 
-  rest-past : all (past-key (get_or keys i 0)) (drop e slots) ≡ true
-  rest-past = all_by (past-key (get_or keys i 0)) (drop e slots) (slot_at keys ids i) each
-    where
-      each : (j : ℕ) → j < length (drop e slots) → past-key (get_or keys i 0) (get_or (drop e slots) j (slot_at keys ids i)) ≡ true
-      each j h =
-          let short : e + j < used = omega (arith, simp (length-drop, length_slots) at h) in
-          let up = keys-up i e r.some (omega arith) in
-          let apart = r.ends (omega arith) in
-          let above : get_or keys i 0 < get_or keys e 0 = lt_of_le-ne up (λ f. apart (sym f)) in
-          rw (get_or-drop, slot_at_lem (e + j) short)
-          (lt-ltb (get_or keys i 0) (get_or keys (e + j) 0) (on j short above))
-        where
-          on : (j : ℕ) → e + j < used → get_or keys i 0 < get_or keys e 0 → get_or keys i 0 < get_or keys (e + j) 0
-          on zero l g = rw (add-zero e) g
-          on (suc j) l g = omega (arith, keys-up e (e + suc j) (omega arith) l)
+  in_order : sorted ((slotted k i ∷ pairs run front) ++ pairs keys ids) ≡ true
+  in_order = rw (← parts) o.order
 
-  in_order : chain (slot_at keys ids i) more ≡ true
-  in_order = chain-front (slot_at keys ids i) more (drop e slots) (rw others at (sorted-chain (slot_at keys ids i) (drop (suc i) slots) (rw first at (sorted-drop i slots o.order))))
+  chained : chain (slotted k i) (pairs run front) ≡ true
+  chained = chain-front (slotted k i) (pairs run front) (pairs keys ids) (unfold sorted in in_order)
 
-  run-ids : map (λ (q : Slot). q.id) (slot_at keys ids i ∷ more) ≡ take (e - i) (drop i ids)
-  run-ids =
-      let long : e - i ≡ suc (e - suc i) = omega (arith, r.some) in
-      let far : i < length ids = omega (arith, o.in_ids, inside) in
-      let most : e - suc i ≤ used - suc i = omega (arith, r.upto) in
-      rw (long, drop-cons ids i 0 far, map-take (λ (q : Slot). q.id), map-drop (λ (q : Slot). q.id), slots_ids keys ids used o.in_ids, drop-take (suc i) used ids, take-take (e - suc i) (used - suc i) (drop (suc i) ids) most)
+  ids_are : map (λ (q : Slot). q.id) (slotted k i ∷ pairs run front) ≡ i ∷ front
+  ids_are = ap (λ (l : List ℕ). i ∷ l) (pairs_ids run front (sym e))
 
-  pub lines_turn : lines_of (drop i slots) (keys_in (drop i slots)) ≡ line (get_or keys i 0) (take (e - i) (drop i ids)) ++ lines_of (drop e slots) (keys_in (drop e slots))
-  lines_turn = rw (parts, run-lines (get_or keys i 0) (slot_at keys ids i) more (drop e slots) of_one rest-past in_order, run-ids)
+  pub lines_turn : lines_of (pairs all_keys ((i ∷ front) ++ ids)) (keys_in (pairs all_keys ((i ∷ front) ++ ids))) ≡ line k (i ∷ front) ++ lines_of (pairs keys ids) (keys_in (pairs keys ids))
+  lines_turn = rw (parts, run-lines k (slotted k i) (pairs run front) (pairs keys ids) of_one past_one chained, ids_are)
 
-  pub keys_turn : length (keys_in (drop i slots)) ≡ suc (length (keys_in (drop e slots)))
-  keys_turn = rw parts (run-keys (get_or keys i 0) (slot_at keys ids i) more (drop e slots) of_one rest-past)
+  pub keys_turn : length (keys_in (pairs all_keys ((i ∷ front) ++ ids))) ≡ suc (length (keys_in (pairs keys ids)))
+  keys_turn = rw parts (run-keys k (slotted k i) (pairs run front) (pairs keys ids) of_one past_one)
 
--- ---- the end of the walk
-
-module _ (keys ids : List ℕ) (used i : ℕ) (h : used ≤ i) where
-  past_all : drop i (slots_of keys ids used) ≡ []
-  unfolding slots_of
-  past_all = drop_of_length-le (tab used (slot_at keys ids)) {i = i} (rw (length-tab used (slot_at keys ids)) h)
-
-  pub lines_end : lines_of (drop i (slots_of keys ids used)) (keys_in (drop i (slots_of keys ids used))) ≡ []
-  unfolding lines_of keys_in distinct
-  lines_end = rw past_all
-
-  pub keys_end : length (keys_in (drop i (slots_of keys ids used))) ≡ 0
-  unfolding keys_in distinct
-  keys_end = rw past_all
+  pub others : Ordered keys ids (length keys)
+  others = record {
+    in_keys = omega arith;
+    in_ids = omega (arith, o.in_ids, length-append (k ∷ run) keys, length-append (i ∷ front) ids);
+    order = sorted_after (slotted k i ∷ pairs run front) (pairs keys ids) in_order;
+  }

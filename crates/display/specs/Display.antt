@@ -1,9 +1,12 @@
 -- The text of a library: what gemlab's `impl Display for GridSearch` prints, and the call that puts it into a lent buffer.
 -- Assumes nothing.
-use Rattle.std.specs.Prelude.{ℕ, ◌≡◌, List, [], ◌∷◌, ◌++◌, map, ltb, eqb, length}
+use Rattle.std.specs.Prelude.{ℕ, ◌≡◌, ◌+◌, ◌*◌, ◌≤◌, List, [], ◌∷◌, ◌++◌, map, ltb, eqb, length, Result}
+use Rattle.std.proofs.Math.Option.{none}
 use Rattle.basics.specs.Lists.{keep}
 use Rattle.basics.specs.Filled.{Filled, fill}
-use Rattle.basics.specs.Refusals.{Test, refuse, fault, Answer, refused, success}
+use Rattle.basics.specs.Answers.{answered}
+use Rattle.basics.specs.Refusals.{Test, refuse, fault, Answer}
+use Rattle.basics.specs.declared.Refusal.{Refusal}
 use Rattle.grid.specs.Divisions.{counts}
 use Rattle.grid_search.specs.declared.GridSearch.{GridSearch}
 use Rattle.table.specs.declared.Row.{Row}
@@ -12,8 +15,6 @@ use Rattle.table.specs.Library.{Library, table}
 use Rattle.rows.specs.Damage.{library_tests}
 use Rattle.sorting.specs.Sorted.{distinct}
 use Rattle.text.specs.Text.{ascii, decimal, list_text}
-use Rattle.display.specs.declared.Shown.{Shown}
-use Rattle.display.specs.declared.Shown.TheVariants.{Length, Refused}
 
 -- ---- containers and ids: the text shows of each row its slot, the key and the id
 
@@ -79,11 +80,18 @@ unfoldable pub showing : GridSearch → Library → List ℕ → Filled
 unfolding fill fault display_tests display_text table
 showing s l buffer = fill (fault (display_tests s l (length buffer))) (display_text s (table l)) buffer
 
--- the answer's length or its number
-abbrev pub shown : Shown → Answer ℕ
-shown (Length n) = success n
-shown (Refused n) = refused n
+-- the text's length or the refusal
+abbrev pub shown : Result ℕ Refusal → Answer ℕ
+shown = answered (λ n. n)
 
-pub record Shows (w : Filled) (r : Shown) (buffer : List ℕ) : Type 0 where
+pub record Shows (w : Filled) (r : Result ℕ Refusal) (buffer : List ℕ) : Type 0 where
   pub answers : shown r ≡ w.answer
   pub buffer_is : buffer ≡ w.list
+
+-- a row takes at most 69 bytes of the text, and the summary 148
+abbrev pub most_bytes : ℕ → ℕ
+most_bytes used = 69 * used + 148
+
+-- the text of a library that is not damaged is no longer
+abbrev pub IsShort : GridSearch → Library → Type 0
+IsShort s l = fault (library_tests s l) ≡ none → length (display_text s (table l)) ≤ most_bytes l.used

@@ -1,3 +1,4 @@
 -- The words of the contract of the text of a library.
 pub mod Display
 pub mod Posts
+pub mod Contents

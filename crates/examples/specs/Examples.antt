@@ -1,7 +1,7 @@
 -- The lines of document 01's 'Positions tried' that it marks with a star, and lines for document 02's requests,
 -- evaluated against the definitions that the contracts cite: one list, one proof.
 -- Assumes nothing.
-use Rattle.std.specs.Prelude.{ℕ, ◌≡◌, Bool, true, false, List, [], ◌∷◌, ◌++◌, map, replicate, pos, negsuc, Float}
+use Rattle.std.specs.Prelude.{ℕ, ◌≡◌, Bool, true, false, List, [], ◌∷◌, ◌++◌, map, replicate, pos, negsuc, Float, Some}
 use Rattle.std.proofs.Math.Option.{Option, none, some, Option-elim}
 use Rattle.std.specs.Float.{nan, inf, fin}
 use Rattle.std.specs.Float.Ieee.{lt}
@@ -14,8 +14,6 @@ use Rattle.geometry.specs.declared.Zeta.{Zeta}
 use Rattle.geometry.specs.Cells.{zetas, triangle_coords, inside}
 use Rattle.grid.specs.Divisions.{counts}
 use Rattle.grid_search.specs.declared.GridSearch.{GridSearch}
-use Rattle.grid_search.specs.declared.GivenU64.TheVariants as count
-use Rattle.grid_search.specs.declared.GivenF64.TheVariants as float
 use Rattle.grid_search.specs.Sheet.{new_sheet}
 use Rattle.grid_search.specs.Examples.{S, low_of_s, high_of_s}
 use Rattle.table.specs.Rows.{key_in}
@@ -121,7 +119,7 @@ above_one_and_half = fin false 103079215105 (negsuc 35)
 -- S with another tolerance
 unfoldable pub with_tolerance : Float → Stated
 unfolding of_sheet new_sheet
-with_tolerance t = of_sheet (new_sheet low_of_s high_of_s (count.Given 8) (float.Given t) (float.Given zero_f))
+with_tolerance t = of_sheet (new_sheet low_of_s high_of_s (Some 8) (Some t) (Some zero_f))
 
 -- a library with room for n rows and so many in use, whatever stands in it; with none in use
 unfoldable pub holding : ℕ → ℕ → Library

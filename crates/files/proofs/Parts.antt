@@ -7,23 +7,26 @@ use mathlib.Core.Path.{◌≡◌, refl, sym, ap, ◌∙◌, subst}
 use mathlib.Core.Bool.{Bool, true, false, cond}
 use mathlib.Core.Option.{Option, none, some}
 use mathlib.Core.List.{List, [], ◌++◌}
-use lib.Dec.{ltb}
 use lib.IntN.{ℤ}
+use Rattle.std.specs.Prelude.{Result, Ok, Err}
 use Rattle.basics.specs.Refusals.{refused, success}
+use Rattle.basics.specs.declared.Refusal.{Refusal}
+use Rattle.basics.proofs.Answers.{Raised}
 use Rattle.grid_search.specs.declared.GridSearch.{GridSearch}
-use Rattle.rows.specs.declared.Inserted.{Inserted}
-use Rattle.rows.specs.declared.Inserted.TheVariants as insert
 use Rattle.table.specs.Library.{Library}
-use Rattle.rows.specs.Turn.{Turn}
+use Rattle.rows.specs.Turn.{Turn, Gives}
 use Rattle.rows.specs.Insert.{inserted}
 use Rattle.loading.specs.Loading.{records_of, leftover, insert_bytes, Inserts}
 use Rattle.loading.proofs.Chunks.{in_parts, stored_whole, whole_append}
 use Rattle.loading.proofs.InOrder.{then-success}
 use Rattle.loading.proofs.Marks.{bytes-used}
-use Rattle.files.specs.declared.Part.{Part}
-use Rattle.files.specs.declared.Part.TheVariants.{More, Last, Refused}
-use Rattle.files.specs.Files.{all_came, part_length, part_of, marks_answer}
-use Rattle.files.specs.Read.{MarksIn, MarksRead, MoreRead, PartRead}
+use Rattle.files.specs.Files.{all_came, part_length, marks_answer}
+use Rattle.files.specs.Read.{MarksIn, MarksRead, MoreRead}
+
+-- the result that `?` gives back for an error
+pub raised : {A : Type 0} (e : Refusal) (r : Result A Refusal) → Raised e r → r ≡ Err e
+raised e (Ok a) h = absurd h.1
+raised e (Err d) h = ap Err h.1
 
 -- a part that is not empty has records of some width
 pub some_width : (width : ℕ) → (part_length width ≡ 0 → ⊥) → 0 < width
@@ -37,74 +40,49 @@ module _ (width : ℕ) (s : GridSearch) where
   no_bytes l = rw (zero-div width, zero-mod width)
 
   -- nothing was read yet
-  pub start : (l : Library) → MoreRead width s l l.used l
+  pub start : (l : Library) → MoreRead width s l l
   start l = record { bytes = []; whole = zero-mod width; is = no_bytes l }
 
-  module _ (not-zero : 0 < width) (l : Library) {used : ℕ} {k : Library} (m : MoreRead width s l used k) where
+  module _ (not-zero : 0 < width) (l : Library) {k : Library} (m : MoreRead width s l k) where
     after : (bytes : List ℕ) → insert_bytes width s k bytes ≡ insert_bytes width s l (m.bytes ++ bytes)
     after bytes =
         let t = insert_bytes width s l m.bytes in
         sym (in_parts s width not-zero l m.bytes bytes m.whole
-        ∙ then-success t (insert_bytes width s t.library bytes) used (ap (λ (u : Turn ℕ). u.answer) m.is)
+        ∙ then-success t (insert_bytes width s t.library bytes) k.used (ap (λ (u : Turn ℕ). u.answer) m.is)
         ∙ ap (λ (u : Turn ℕ). insert_bytes width s u.library bytes) m.is)
 
     -- and then another part, whose marks are all taken
-    both : {n : ℕ} {next : Library} → MoreRead width s k n next → MoreRead width s l n next
-    both q = record {
+    pub more : {next : Library} → MoreRead width s k next → MoreRead width s l next
+    more q = record {
       bytes = m.bytes ++ q.bytes;
       whole = whole_append width not-zero m.bytes q.bytes m.whole q.whole;
       is = sym (after q.bytes) ∙ q.is;
     }
 
-    module _ (lists : ℕ → Library) (p : Part) (q : PartRead width s k p lists) (n : ℕ) where
-      pub more : p ≡ More n → MoreRead width s l n (lists n)
-      more e = both (subst (λ (x : Part). PartRead width s k x lists) e q)
-
-      pub last : p ≡ Last n → MoreRead width s l n (lists n)
-      last e = both (subst (λ (x : Part). PartRead width s k x lists) e q)
-
-      pub stopped : p ≡ Refused n → MarksRead width s l (insert.Refused n) lists
-      stopped e = let r : MarksRead width s k (insert.Refused n) lists = subst (λ (x : Part). PartRead width s k x lists) e q in go r.file r.is
-        where
-          go : (file : Option (List ℕ)) → MarksIn width s k file (insert.Refused n) lists → MarksRead width s l (insert.Refused n) lists
-          go none f = record { file = none; is = f }
-          go (some bytes) f = record { file = some (m.bytes ++ bytes); is = subst (λ (t : Turn ℕ). Inserts t (insert.Refused n) lists) (after bytes) f }
+    -- or one with a mark that is turned away
+    pub stopped : {next : Library} (e : Refusal) → MarksRead width s k (Err e) next → MarksRead width s l (Err e) next
+    stopped {next} e r = go r.file r.is
+      where
+        go : (file : Option (List ℕ)) → MarksIn width s k file (Err e) next → MarksRead width s l (Err e) next
+        go none f = record { file = none; is = f }
+        go (some bytes) f = record { file = some (m.bytes ++ bytes); is = subst (λ (t : Turn ℕ). Inserts t (Err e) next) (after bytes) f }
 
   -- the end of the file, or none
-  pub ended : (l : Library) (lists : ℕ → Library) (used : ℕ) → MoreRead width s l used (lists used) → (lists used).used ≡ used → (opened next : ℤ) (r : Inserted) → inserted r ≡ marks_answer opened next used → MarksRead width s l r lists
+  pub ended : (l k : Library) → MoreRead width s l k → (opened next : ℤ) (r : Result ℕ Refusal) → inserted r ≡ marks_answer opened next k.used → MarksRead width s l r k
   unfolding marks_answer
-  ended l lists used m u opened next r e = go (all_came opened next) e
+  ended l k m opened next r e = go (all_came opened next) e
     where
-      whole : Inserts (insert_bytes width s l m.bytes) (insert.Stored used) lists
-      whole = record {
-        answers = ap (λ (t : Turn ℕ). t.answer) (sym m.is);
-        library-is = ap (λ (t : Turn ℕ). lists t.library.used) m.is ∙ ap lists u ∙ ap (λ (t : Turn ℕ). t.library) (sym m.is);
-      }
-
-      go : (b : Bool) → inserted r ≡ cond b (success used) (refused 13) → MarksRead width s l r lists
-      go true f = record { file = some m.bytes; is = record { answers = f ∙ whole.answers; library-is = whole.library-is } }
+      go : (b : Bool) → inserted r ≡ cond b (success k.used) (refused 13) → MarksRead width s l r k
+      go true f = record { file = some m.bytes; is = record { answers = f ∙ ap (λ (t : Turn ℕ). t.answer) (sym m.is); library-is = ap (λ (t : Turn ℕ). t.library) (sym m.is) } }
       go false f = record { file = none; is = f }
 
-  -- a part that gave this answer
-  pub part : (l : Library) (bytes : List ℕ) (came asked : ℕ) (lists : ℕ → Library) (answer : Inserted) (r : Part)
-      → Inserts (insert_bytes width s l bytes) answer lists → r ≡ part_of came asked (inserted answer) → PartRead width s l r lists
-  unfolding part_of
-  part l bytes came asked lists answer r g e = subst (λ (p : Part). PartRead width s l p lists) (sym e) (go answer g)
+  -- a part whose marks were all taken
+  pub part : (l k : Library) (bytes : List ℕ) (n : ℕ) → Gives (insert_bytes width s l bytes) (success n) k → MoreRead width s l k
+  part l k bytes n g = record {
+    bytes = bytes;
+    whole = stored_whole s width l bytes n (sym g.answers);
+    is = same (insert_bytes width s l bytes) g (bytes-used width s l bytes n (sym g.answers));
+  }
     where
-      all : (rows : ℕ) → Inserts (insert_bytes width s l bytes) (insert.Stored rows) lists → MoreRead width s l rows (lists rows)
-      all rows h = record {
-        bytes = bytes;
-        whole = stored_whole s width l bytes rows (sym h.answers);
-        is = same (insert_bytes width s l bytes) h ∙ ap (λ (n : ℕ). record { library = lists n; answer = success rows }) (bytes-used width s l bytes rows (sym h.answers));
-      }
-        where
-          same : (t : Turn ℕ) → Inserts t (insert.Stored rows) lists → t ≡ record { library = lists t.library.used; answer = success rows }
-          same t q = rw (q.library-is, q.answers)
-
-      taken : (rows : ℕ) → MoreRead width s l rows (lists rows) → (b : Bool) → PartRead width s l (cond b (Last rows) (More rows)) lists
-      taken rows h true = h
-      taken rows h false = h
-
-      go : (a : Inserted) → Inserts (insert_bytes width s l bytes) a lists → PartRead width s l (part_of came asked (inserted a)) lists
-      go (insert.Stored rows) h = taken rows (all rows h) (ltb came asked)
-      go (insert.Refused n) h = record { file = some bytes; is = h }
+      same : (t : Turn ℕ) → Gives t (success n) k → t.library.used ≡ n → t ≡ record { library = k; answer = success k.used }
+      same t q u = rw (q.library-is, u, q.answers)

@@ -8,7 +8,7 @@ use Rattle.basics.specs.Refusals.{Answer, refused, success}
 use Rattle.files.specs.declared.Input.{Input}
 use Rattle.files.specs.declared.Input.TheVariants.{Whole, Longer, Unreadable}
 use Rattle.files.specs.declared.Part.{Part}
-use Rattle.files.specs.declared.Part.TheVariants.{More, Last, Refused}
+use Rattle.files.specs.declared.Part.TheVariants.{More, Last}
 
 -- reading on answers 0 at the end, the number of bytes where more follow, and a number below 0 where it fails
 unfoldable pub is_end : ℤ → Bool
@@ -29,10 +29,9 @@ content opened bytes after = cond (all_came opened after) (some bytes) none
 unfoldable pub part_length : ℕ → ℕ
 part_length width = 65536 / width * width
 
--- what comes after a part of the marks that gave this answer. A part of fewer bytes than were asked for is the last.
-unfoldable pub part_of : ℕ → ℕ → Answer ℕ → Part
-part_of came asked (refused n) = Refused n
-part_of came asked (success rows) = cond (ltb came asked) (Last rows) (More rows)
+-- what comes after a part of the marks that was taken: a part of fewer bytes than were asked for is the last
+unfoldable pub part_of : ℕ → ℕ → Part
+part_of came asked = cond (ltb came asked) Last More
 
 -- the answer to a file whose marks were all taken: they have to be all of the file
 unfoldable pub marks_answer : ℤ → ℤ → ℕ → Answer ℕ

@@ -9,27 +9,26 @@
 ghost use Rattle.std.specs.Prelude.{◌≤◌, ◌<◌, ◌≡◌, length, take, IfSome, MatchOption};
 ghost use Rattle.std.specs.Io.KnownBytes.{Consumes, Keeps};
 ghost use Rattle.grid_search.specs.Sheet.{made};
-ghost use Rattle.table.specs.Library.{library};
+ghost use Rattle.table.specs.Lent.{lent_mut, SameLists};
 ghost use Rattle.rows.specs.Insert.{inserted};
 ghost use Rattle.loading.specs.Loading.{sheet_in};
 ghost use Rattle.files.specs.Counts.{IsPrefixLen};
 ghost use Rattle.files.specs.Files.{all_came, content, part_length, part_of, marks_answer, input_of, said};
 ghost use Rattle.files.specs.Read.{SheetRead, PartRead, MarksRead, Came};
 
-use grid_search::{GridSearch, Made};
-use rows::Inserted;
+use basics::Refusal;
+use grid_search::GridSearch;
 use std::fs::File;
 use std::io;
 use std::io::{ErrorKind, Print, Read};
 use std::rt::Files;
+use table::LibraryMut;
 
-// What comes after a part of the marks: more of them, with this number of rows in use; the end of the file, likewise; or nothing,
-// since a mark was turned away or bytes are left over.
-#[derive(Clone, Copy)]
+// What comes after a part of the marks that was taken: more of them, or the end of the file.
+#[derive(Clone, Copy, PartialEq, Eq)]
 pub enum Part {
-    More(usize),
-    Last(usize),
-    Refused(u64),
+    More,
+    Last,
 }
 
 // What standard input holds: this number of bytes; more than a program takes; or it cannot be read.
@@ -48,47 +47,39 @@ fn all_came(opened: i32, after: isize) -> bool
 }
 
 // The sheet of a file: 13 where the bytes are not all of it, and else what they say.
-pub fn sheet_of_file(opened: i32, bytes: &[u8], after: isize) -> Made
+pub fn sheet_of_file(opened: i32, bytes: &[u8], after: isize) -> Result<GridSearch, Refusal>
     ensures { made result ≡ sheet_in (content opened bytes.now after) }
 {
     if !all_came(opened, after) {
-        return Made::Refused(13);
+        return Err(Refusal::Damaged);
     }
     loading::sheet_of_records(bytes)
 }
 
 // How many bytes are asked for at a time: whole records of this width, as many as 65,536 bytes hold.
 pub fn part_length(width: usize) -> usize
-    ensures fact_1 { result ≡ part_length width }
-    ensures fact_2 { result ≤ 65536 }
+    ensures value { result ≡ part_length width }
+    ensures most { result ≤ 65536 }
 {
     if width == 0 { 0 } else { 65536 / width * width }
 }
 
-// What comes after a part of the marks that was inserted with this answer: `came` bytes, of `asked` that were asked for.
-pub fn part_of(came: usize, asked: usize, answer: Inserted) -> Part
-    ensures { result ≡ part_of came asked (inserted answer) }
+// What comes after a part of the marks: `came` bytes, of `asked` that were asked for.
+#[tactic(auto, unfolding(crate::specs::Files::part_of))]
+pub fn part_of(came: usize, asked: usize) -> Part
+    ensures { result ≡ part_of came asked }
 {
-    match answer {
-        Inserted::Refused(number) => Part::Refused(number),
-        Inserted::Stored(rows) => {
-            if came < asked {
-                Part::Last(rows)
-            } else {
-                Part::More(rows)
-            }
-        }
-    }
+    if came < asked { Part::Last } else { Part::More }
 }
 
 // The answer to a file whose marks were all taken and left this number of rows in use: 13 where they are not all of the file.
-pub fn marks_answer(opened: i32, after: isize, rows: usize) -> Inserted
+pub fn marks_answer(opened: i32, after: isize, rows: usize) -> Result<usize, Refusal>
     ensures { inserted result ≡ marks_answer opened after rows }
 {
     if !all_came(opened, after) {
-        return Inserted::Refused(13);
+        return Err(Refusal::Damaged);
     }
-    Inserted::Stored(rows)
+    Ok(rows)
 }
 
 // What standard input holds, where `came` bytes came of `asked` that were asked for. Where fewer came, reading failed or the input
@@ -165,7 +156,7 @@ fn read_on<R: Read>(reader: &mut R) -> isize {
 }
 
 // The sheet of a file that was opened: two records.
-fn sheet_of_reader<R: Read>(reader: &mut R) -> Made
+fn sheet_of_reader<R: Read>(reader: &mut R) -> Result<GridSearch, Refusal>
     ensures { SheetRead result }
 {
     let mut bytes = [0u8; 64];
@@ -175,7 +166,7 @@ fn sheet_of_reader<R: Read>(reader: &mut R) -> Made
 }
 
 // The sheet of the file of this name: two records.
-pub fn read_sheet(rt: &impl Files, name: &[u8]) -> Made
+pub fn read_sheet(rt: &impl Files, name: &[u8]) -> Result<GridSearch, Refusal>
     ensures { SheetRead result }
 {
     match open(rt, name) {
@@ -189,78 +180,58 @@ fn insert_part<R: Read>(
     reader: &mut R,
     width: usize,
     sheet: GridSearch,
-    keys: &mut [u64; 1024],
-    ids: &mut [u64; 1024],
-    xs: &mut [f64; 1024],
-    ys: &mut [f64; 1024],
-    zs: &mut [f64; 1024],
-    used: usize,
-) -> Part
-    ensures { PartRead width sheet (library keys.old ids.old xs.old ys.old zs.old used)
-        result (library keys.new ids.new xs.new ys.new zs.new) }
+    library: &mut LibraryMut,
+) -> Result<Part, Refusal>
+    ensures read { PartRead width sheet (lent_mut library.old) result (lent_mut library.new) }
+    ensures same_lists { SameLists library.old library.new }
 {
     let mut bytes = [0u8; 65536];
     let asked = part_length(width);
     let n = read_full(reader, &mut bytes[..asked]);
-    let answer = loading::insert_records(sheet, keys, ids, xs, ys, zs, used, &bytes[..n], width);
-    part_of(n, asked, answer)
+    loading::insert_records(sheet, library, &bytes[..n], width)?;
+    Ok(part_of(n, asked))
 }
 
-// Inserts the marks of an open file part by part. A proved loop has to end, and nothing says that a file does: so the loop
-// counts its turns down, from a number that no file uses up.
+// Inserts the marks of an open file part by part, from a library with no row in use. A proved loop has to end, and nothing says that a
+// file does: so the loop has a number of turns that no file uses up.
 fn insert_parts<R: Read>(
     reader: &mut R,
     width: usize,
     sheet: GridSearch,
-    keys: &mut [u64; 1024],
-    ids: &mut [u64; 1024],
-    xs: &mut [f64; 1024],
-    ys: &mut [f64; 1024],
-    zs: &mut [f64; 1024],
-) -> Inserted
+    library: &mut LibraryMut,
+) -> Result<usize, Refusal>
     requires { 0 < width }
-    ensures { MarksRead width sheet (library keys.old ids.old xs.old ys.old zs.old 0)
-        result (library keys.new ids.new xs.new ys.new zs.new) }
+    ensures read { MarksRead width sheet (lent_mut library.old) result (lent_mut library.new) }
+    ensures same_lists { SameLists library.old library.new }
 {
-    let mut used = 0;
-    let mut turns = u64::MAX;
-    while turns > 0 {
-        let part = insert_part(reader, width, sheet, keys, ids, xs, ys, zs, used);
-        match part {
-            Part::More(rows) => used = rows,
-            Part::Last(rows) => {
-                let after = read_on(reader);
-                return marks_answer(0, after, rows);
-            }
-            Part::Refused(number) => return Inserted::Refused(number),
+    for _ in 0..u64::MAX {
+        let part = insert_part(reader, width, sheet, library)?;
+        if part == Part::Last {
+            let after = read_on(reader);
+            return marks_answer(0, after, library.used);
         }
-        turns -= 1;
     }
-    Inserted::Refused(13)
+    Err(Refusal::Damaged)
 }
 
-// Inserts the marks of the file of this name, whose records have this width, into a library with no row in use. 13 where no
-// record of that width fits into a part.
+// Inserts the marks of the file of this name, whose records have this width, into a library. 13 where no record of that width
+// fits into a part.
 pub fn insert_file(
     rt: &impl Files,
     name: &[u8],
     width: usize,
     sheet: GridSearch,
-    keys: &mut [u64; 1024],
-    ids: &mut [u64; 1024],
-    xs: &mut [f64; 1024],
-    ys: &mut [f64; 1024],
-    zs: &mut [f64; 1024],
-) -> Inserted
-    ensures { MarksRead width sheet (library keys.old ids.old xs.old ys.old zs.old 0)
-        result (library keys.new ids.new xs.new ys.new zs.new) }
+    library: &mut LibraryMut,
+) -> Result<usize, Refusal>
+    ensures read { MarksRead width sheet (lent_mut library.old) result (lent_mut library.new) }
+    ensures same_lists { SameLists library.old library.new }
 {
     if part_length(width) == 0 {
-        return Inserted::Refused(13);
+        return Err(Refusal::Damaged);
     }
     match open(rt, name) {
-        Some(mut file) => insert_parts(&mut file, width, sheet, keys, ids, xs, ys, zs),
-        None => marks_answer(-1, -1, 0),
+        Some(mut file) => insert_parts(&mut file, width, sheet, library),
+        None => marks_answer(-1, -1, library.used),
     }
 }
 

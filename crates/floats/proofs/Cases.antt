@@ -2,7 +2,7 @@
 use Rattle.std.proofs.Common.{◌≡◌, ℕ, zero, suc, ◌+◌, ◌*◌, ◌/◌, ◌%◌, ◌^◌, ◌<◌, ◌≤◌, Bool, true, false, cond, not, ◌&&◌, ◌||◌, T, eqb, ltb, pos, sym, refl, ap, ◌∙◌, subst, true≢false, lt_irrefl, mod-eq_of_lt, zero-lt-suc, mul-pos, zero-mul, mul-one, arith, eqb→eq, le-ltb, lt-ltb, le-leb}
 use native.Mathlib.Decide.{dec_lt}
 use mathlib.Core.Bool.{beq, false≢true}
-use lib.Ieee.{Float, nan, inf, fin, binary64, fits, up, down, odd, lt, eq, div, is_nan, nan_bits, of_fields, of_bits, to_bits}
+use lib.Ieee.{Float, nan, inf, fin, binary64, fits, up, down, odd, lt, eq, div, nan_bits, of_fields, of_bits, to_bits}
 use lib.Ieee.Bits.{of_bits-to_bits, nan_bits_above}
 use lib.Ieee.Fits.{up_pos, and_l}
 use Rattle.floats.specs.Sqrt.{sqrt_of}
@@ -12,12 +12,6 @@ abbrev pub zero_of : Float
 zero_of = fin false 0 (pos 0)
 
 -- ---- x > 0.0
-pub no_nan : (x : Float) → lt zero_of x ≡ true → T (not (is_nan x))
-unfolding lt is_nan
-no_nan nan h = absurd (false≢true h)
-no_nan (inf s) h = tt
-no_nan (fin s m e) h = tt
-
 not_above_itself : lt zero_of zero_of ≡ false
 unfolding lt
 not_above_itself = refl
@@ -91,6 +85,11 @@ root_of_infinity x e = e ∙ at ∙ ap sqrt_of (sym e)
   where
     at : inf false ≡ sqrt_of (inf false)
     at = unfold sqrt_of in refl
+
+pub root_from_infinity : (x : Float) → T (fits binary64 x) → lt zero_of x ≡ true → 2047 * 2 ^ 52 ≤ to_bits binary64 x → x ≡ sqrt_of x
+root_from_infinity x F h b =
+    let back = of_bits-to_bits binary64 x F in
+    root_of_infinity x (sym back ∙ from_infinity (to_bits binary64 x) b (ap (lt zero_of) back ∙ h))
 
 -- ---- x == 0.0
 pub positive_product : (m : ℕ) (a : ℕ) → 0 < a → suc m * a * 1 ≡ 0 → ⊥

@@ -1,12 +1,11 @@
 -- The values by the tests of `abs`, `min`, `max` and `same_bits`. Assumes nothing.
-use Rattle.std.proofs.Common.{◌≡◌, ℕ, zero, suc, ◌+◌, ◌*◌, ◌^◌, true, false, ◌||◌, T, eqb, ltb, ◌⊎◌, ℤ, pos, negsuc, sym, refl, ap, ◌∙◌, subst, inl, inr, true≢false, zero-lt-suc, mul-pos, one-mul, pow-suc, zero-mul, mul-one, arith, eqb→eq, ltb→lt, lt-ltb}
+use Rattle.std.proofs.Common.{◌≡◌, ℕ, zero, suc, ◌+◌, ◌*◌, ◌^◌, true, false, ◌||◌, T, eqb, ltb, ℤ, pos, negsuc, sym, refl, ap, ◌∙◌, subst, true≢false, zero-lt-suc, mul-pos, one-mul, pow-suc, zero-mul, mul-one, arith, eqb→eq, ltb→lt, lt-ltb}
 use mathlib.Core.Bool.{beq, false≢true}
-use lib.Ieee.{Float, nan, inf, fin, binary64, fits, up, down, lt, eq, neg, is_nan}
+use lib.Ieee.{Float, nan, inf, fin, binary64, fits, up, down, lt, eq, neg}
 use lib.Ieee.Bits.{is_true}
 use lib.Ieee.Fits.{up_pos, and_l}
-use Rattle.floats.specs.Tests.{abs_of, min_of, max_of, finite}
-use Rattle.floats.proofs.Order.{eq_left, eq_self}
-use Rattle.basics.proofs.Bools.{which, clash}
+use Rattle.std.specs.Float.{float_with_sign, float_is_finite}
+use Rattle.floats.specs.Tests.{abs_of, finite}
 use Rattle.floats.proofs.Cases.{zero_of, zero_equal, positive_product}
 
 -- ---- abs
@@ -50,43 +49,15 @@ abs-other (fin true zero e) h k =
 abs-other (fin true (suc m) e) h k =
     absurd (true≢false (sym (lt-ltb 0 (suc m * up e * 1 + 0 * 1 * down e) (omega (arith, mul-pos (zero-lt-suc m) (up_pos e)))) ∙ h))
 
--- ---- a value that does not equal itself is a NaN
-pub differs : (x : Float) → eq x x ≡ false → is_nan x ≡ true
-differs x h = go (which (is_nan x))
-  where
-    go : (is_nan x ≡ true) ⊎ (is_nan x ≡ false) → is_nan x ≡ true
-    go (inl p) = p
-    go (inr p) = clash (eq_self x p) h
+-- ---- std's words
+pub magnitude : (x : Float) → float_with_sign false x ≡ abs_of x
+unfolding float_with_sign abs_of
+magnitude nan = refl
+magnitude (inf s) = refl
+magnitude (fin s m e) = refl
 
--- ---- min and max: which of two, by the tests made
-module _ (a b : Float) where
-  pub min-below : lt b a ≡ true → b ≡ min_of a b
-  unfolding min_of
-  min-below h = rw h
-
-  pub min-same : lt b a ≡ false → eq a a ≡ true → a ≡ min_of a b
-  unfolding min_of
-  min-same h k = rw (h, eq_left a a k)
-
-  pub min-nan : lt b a ≡ false → eq a a ≡ false → b ≡ min_of a b
-  unfolding min_of
-  min-nan h k = rw (h, differs a k)
-
-  pub max-above : lt a b ≡ true → b ≡ max_of a b
-  unfolding max_of
-  max-above h = rw h
-
-  pub max-same : lt a b ≡ false → eq a a ≡ true → a ≡ max_of a b
-  unfolding max_of
-  max-same h k = rw (h, eq_left a a k)
-
-  pub max-nan : lt a b ≡ false → eq a a ≡ false → b ≡ max_of a b
-  unfolding max_of
-  max-nan h k = rw (h, differs a k)
-
--- ---- the tests
-pub finite-test : (x : Float) → lt (abs_of x) (inf false) ≡ finite x
-unfolding lt abs_of finite
-finite-test nan = refl
-finite-test (inf s) = refl
-finite-test (fin s m e) = refl
+pub finite_is : (x : Float) → float_is_finite x ≡ finite x
+unfolding float_is_finite finite
+finite_is nan = refl
+finite_is (inf s) = refl
+finite_is (fin s m e) = refl

@@ -66,23 +66,30 @@ at_odd a h q A B L H e w =
 pow_lt_back : (i p : ℕ) → 2 ^ i < 2 ^ p → i < p
 pow_lt_back i p h = lt_of_not-le (λ (g : p ≤ i). lt_irrefl (2 ^ i) (lt_of_lt_of_le h (pow_mono g)))
 
+-- z places up, and it is not moved past the word's end
 pub record Moved (d z : ℕ) : Type 0 where
-  pub places : (11 ≤ z) × (z - 11 ≤ 52)
-  pub from : 2 ^ 52 ≤ (d * 2 ^ (z - 11)) % 2 ^ 64
-  pub to : (d * 2 ^ (z - 11)) % 2 ^ 64 < 2 ^ 53
-  pub exact : (d * 2 ^ (z - 11)) % 2 ^ 64 ≡ d * 2 ^ (z - 11)
+  pub places : z ≤ 52
+  pub from : 2 ^ 52 ≤ (d * 2 ^ z) % 2 ^ 64
+  pub to : (d * 2 ^ z) % 2 ^ 64 < 2 ^ 53
+  pub exact : (d * 2 ^ z) % 2 ^ 64 ≡ d * 2 ^ z
 
-pub moved : (d : ℕ) → 0 < d → d < 2 ^ 52 → Moved d (count_leading_zeros 64 d)
-moved d D H =
+-- the zeros in front of it
+pub zeros : (d : ℕ) → 0 < d → d < 2 ^ 52 → 11 ≤ count_leading_zeros 64 d
+zeros d D H =
+    let l = leading_top 64 d D (lt_of_lt_of_le H (lit≤ tt)) in
+    let J : l.0 < 52 = pow_lt_back l.0 52 (lt_of_le_of_lt l.2 H) in
+    omega (arith, l.1)
+
+pub moved : (d z : ℕ) → 0 < d → d < 2 ^ 52 → z ≡ count_leading_zeros 64 d - 11 → Moved d z
+moved d z D H Z =
     let l = leading_top 64 d D (lt_of_lt_of_le H (lit≤ tt)) in
     let j = l.0 in
-    let z = count_leading_zeros 64 d in
     let J : j < 52 = pow_lt_back j 52 (lt_of_le_of_lt l.2 H) in
-    let zj : z - 11 ≡ 52 - j = omega (arith, l.1) in
-    let lo : 2 ^ 52 ≤ d * 2 ^ (z - 11) = le_trans (le_of_eq (ap (λ (x : ℕ). 2 ^ x) (le_join j (z - 11) J zj) ∙ pow-add 2 j (z - 11))) (mul-le-mul_right (2 ^ (z - 11)) l.2) in
-    let hi : d * 2 ^ (z - 11) < 2 ^ 53 = lt_of_lt_of_le (mul-lt-mul_of_pos_right l.3 (pow_pos (z - 11))) (le_of_eq (sym (pow-add 2 (suc j) (z - 11)) ∙ ap (λ (x : ℕ). 2 ^ x) (lt-join j (z - 11) J zj))) in
-    let e : (d * 2 ^ (z - 11)) % 2 ^ 64 ≡ d * 2 ^ (z - 11) = mod-eq_of_lt (lt_of_lt_of_le hi (lit≤ tt)) in
-    record { places = omega (arith, l.1); from = subst (λ (x : ℕ). 2 ^ 52 ≤ x) (sym e) lo; to = subst (λ (x : ℕ). x < 2 ^ 53) (sym e) hi; exact = e }
+    let zj : z ≡ 52 - j = omega (arith, l.1) in
+    let lo : 2 ^ 52 ≤ d * 2 ^ z = le_trans (le_of_eq (ap (λ (x : ℕ). 2 ^ x) (le_join j z J zj) ∙ pow-add 2 j z)) (mul-le-mul_right (2 ^ z) l.2) in
+    let hi : d * 2 ^ z < 2 ^ 53 = lt_of_lt_of_le (mul-lt-mul_of_pos_right l.3 (pow_pos z)) (le_of_eq (sym (pow-add 2 (suc j) z) ∙ ap (λ (x : ℕ). 2 ^ x) (lt-join j z J zj))) in
+    let e : (d * 2 ^ z) % 2 ^ 64 ≡ d * 2 ^ z = mod-eq_of_lt (lt_of_lt_of_le hi (lit≤ tt)) in
+    record { places = omega arith; from = subst (λ (x : ℕ). 2 ^ 52 ≤ x) (sym e) lo; to = subst (λ (x : ℕ). x < 2 ^ 53) (sym e) hi; exact = e }
   where
     le_join : (j x : ℕ) → j < 52 → x ≡ 52 - j → 52 ≡ j + x
     le_join j x J e = omega arith

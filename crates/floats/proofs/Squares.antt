@@ -31,13 +31,19 @@ halves a b =
     let A = a * 2 ^ 27 in
     omega (arith, add-mul A b (A + b), mul-add A A b, mul-add b A b, mul-mul-mul_comm a (2 ^ 27) a (2 ^ 27), mul_right_comm a (2 ^ 27) b, mul_comm b A)
 
+-- v is x - y, which is not below 0
+abbrev pub Difference : (v x y : ℕ) → Type 0
+Difference v x y = (y ≤ x) × (v ≡ x - y)
+
 -- the code's f
-pub f_is : (s q a b : ℕ) → a ≡ q / 2 ^ 27 → b ≡ q % 2 ^ 27 → a * a * 4 ≤ s + 8 → a * b ≤ (s + 8 - a * a * 4) * 2 ^ 24 → b * b ≤ ((s + 8 - a * a * 4) * 2 ^ 24 - a * b) * 2 ^ 28 + q
-    → ((s + 8 - a * a * 4) * 2 ^ 24 - a * b) * 2 ^ 28 + q - b * b + q * q ≡ s * 2 ^ 52 + q + 2 ^ 55
-f_is s q a b p r h k l =
-    let e : q ≡ a * 2 ^ 27 + b = omega arith in
-    let w : q * q ≡ a * a * 2 ^ 54 + a * b * 2 ^ 28 + b * b = ap (λ (x : ℕ). x * x) e ∙ halves a b in
-    omega arith
+pub f_is : (s q c d f : ℕ) → Difference c (s + 8) (q / 2 ^ 27 * (q / 2 ^ 27) * 4) → Difference d (c * 2 ^ 24) (q / 2 ^ 27 * (q % 2 ^ 27)) → Difference f (d * 2 ^ 28 + q) (q % 2 ^ 27 * (q % 2 ^ 27))
+    → f + q * q ≡ s * 2 ^ 52 + q + 2 ^ 55
+f_is s q c d f h k l = parts (q / 2 ^ 27) (q % 2 ^ 27) (omega arith) h k l
+  where
+    parts : (a b : ℕ) → q ≡ a * 2 ^ 27 + b → Difference c (s + 8) (a * a * 4) → Difference d (c * 2 ^ 24) (a * b) → Difference f (d * 2 ^ 28 + q) (b * b) → f + q * q ≡ s * 2 ^ 52 + q + 2 ^ 55
+    parts a b e h k l =
+        let w : q * q ≡ a * a * 2 ^ 54 + a * b * 2 ^ 28 + b * b = ap (λ (x : ℕ). x * x) e ∙ halves a b in
+        omega arith
 
 pub up_one : (s q : ℕ) → 2 ^ 52 ≤ s → s ≤ 2 ^ 54 - 2 → 0 < q → q * q + q < s * 2 ^ 52 → s * 2 ^ 52 ≤ q * q + 3 * q + 2 → Rounded (s * 2 ^ 52) (q + 1)
 up_one s q A B Q lo hi = rounded_of s (q + 1) A B (omega arith) (omega (arith, square_suc q)) (omega (arith, square_suc q))
@@ -48,7 +54,3 @@ down-one s q A B Q lo hi =
     let e : q ≡ t + 1 = omega arith in
     let qq : q * q ≡ t * t + 2 * t + 1 = ap (λ (x : ℕ). x * x) e ∙ square_suc t in
     rounded_of s t A B (omega arith) (omega arith) (omega arith)
-
--- ---- the products fit
-pub product_lt : (a b : ℕ) → a ≤ 2 ^ 27 → b ≤ 2 ^ 27 → a * b ≤ 2 ^ 54
-product_lt a b h k = mul-le-mul h k

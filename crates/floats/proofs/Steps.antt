@@ -24,46 +24,43 @@ room r s i h g =
 under : (s i : ℕ) → (s + 1) * 2 ^ i ≤ 2 ^ 53 → s < 2 ^ 53
 under s i h = let g : s + 1 ≤ (s + 1) * 2 ^ i = le-mul_of_pos_right (s + 1) (pow_pos i) in omega arith
 
--- a turn: t is `rest` with the next two digits, and the next digit of the root is 1 or 0
-pub turn_one : (a w r rest i : ℕ) → 0 < i → Turns a w r rest i → r * 2 * 2 < rest * 4 + w / 2 ^ 62
-    → Turns a ((w * 2 ^ 2) % 2 ^ 64) (r * 2 + 1) (rest * 4 + w / 2 ^ 62 - (r * 2 * 2 + 1)) (i - 1)
-turn_one a w r rest zero I v t = absurd (lt_irrefl 0 I)
-turn_one a w r rest (suc j) I v t =
-    subst (λ (i : ℕ). Turns a ((w * 2 ^ 2) % 2 ^ 64) (r * 2 + 1) (rest * 4 + w / 2 ^ 62 - (r * 2 * 2 + 1)) i) (back j)
-    (let k = room r (r * 2 + 1) j (omega arith) v.4 in (
+back : (i j : ℕ) → suc i ≡ j + 1 → i ≡ j
+back i j e = omega arith
+
+-- a turn, after which j are left: the next digit of the root is 1 or 0
+pub turn_one : (a w r rest i j : ℕ) → i ≡ j + 1 → Turns a w r rest i → r * 2 * 2 < rest * 4 + w / 2 ^ 62
+    → Turns a ((w * 2 ^ 2) % 2 ^ 64) (r * 2 + 1) (rest * 4 + w / 2 ^ 62 - (r * 2 * 2 + 1)) j
+turn_one a w r rest zero j e v t = let z : suc 0 ≤ 0 = omega arith in absurd (lt_irrefl 0 z)
+turn_one a w r rest (suc i) j e v t =
+    subst (λ (i : ℕ). Turns a ((w * 2 ^ 2) % 2 ^ 64) (r * 2 + 1) (rest * 4 + w / 2 ^ 62 - (r * 2 * 2 + 1)) i) (back i j e)
+    (let k = room r (r * 2 + 1) i (omega arith) v.4 in (
       omega arith,
       omega arith,
       omega arith,
-      under (r * 2 + 1) j k,
+      under (r * 2 + 1) i k,
       k,
-      grown ((r * r + rest) * 2 ^ 64 + w) (((r * 2 + 1) * (r * 2 + 1) + (rest * 4 + w / 2 ^ 62 - (r * 2 * 2 + 1))) * 2 ^ 64 + (w * 2 ^ 2) % 2 ^ 64) (a * 2 ^ 116) j
+      grown ((r * r + rest) * 2 ^ 64 + w) (((r * 2 + 1) * (r * 2 + 1) + (rest * 4 + w / 2 ^ 62 - (r * 2 * 2 + 1))) * 2 ^ 64 + (w * 2 ^ 2) % 2 ^ 64) (a * 2 ^ 116) i
           (omega (arith, sq r)) v.5,
     ))
   where
-    back : (j : ℕ) → j ≡ suc j - 1
-    back j = omega arith
-
     sq : (r : ℕ) → (r * 2 + 1) * (r * 2 + 1) ≡ 4 * (r * r) + 4 * r + 1
     sq r = ap (λ (x : ℕ). (x + 1) * (x + 1)) (mul_comm r 2) ∙ square_odd r
 
-pub turn_zero : (a w r rest i : ℕ) → 0 < i → Turns a w r rest i → rest * 4 + w / 2 ^ 62 ≤ r * 2 * 2
-    → Turns a ((w * 2 ^ 2) % 2 ^ 64) (r * 2) (rest * 4 + w / 2 ^ 62) (i - 1)
-turn_zero a w r rest zero I v t = absurd (lt_irrefl 0 I)
-turn_zero a w r rest (suc j) I v t =
-    subst (λ (i : ℕ). Turns a ((w * 2 ^ 2) % 2 ^ 64) (r * 2) (rest * 4 + w / 2 ^ 62) i) (back j)
-    (let k = room r (r * 2) j (omega arith) v.4 in (
+pub turn_zero : (a w r rest i j : ℕ) → i ≡ j + 1 → Turns a w r rest i → rest * 4 + w / 2 ^ 62 ≤ r * 2 * 2
+    → Turns a ((w * 2 ^ 2) % 2 ^ 64) (r * 2) (rest * 4 + w / 2 ^ 62) j
+turn_zero a w r rest zero j e v t = let z : suc 0 ≤ 0 = omega arith in absurd (lt_irrefl 0 z)
+turn_zero a w r rest (suc i) j e v t =
+    subst (λ (i : ℕ). Turns a ((w * 2 ^ 2) % 2 ^ 64) (r * 2) (rest * 4 + w / 2 ^ 62) i) (back i j e)
+    (let k = room r (r * 2) i (omega arith) v.4 in (
       omega arith,
       omega arith,
       omega arith,
-      under (r * 2) j k,
+      under (r * 2) i k,
       k,
-      grown ((r * r + rest) * 2 ^ 64 + w) ((r * 2 * (r * 2) + (rest * 4 + w / 2 ^ 62)) * 2 ^ 64 + (w * 2 ^ 2) % 2 ^ 64) (a * 2 ^ 116) j
+      grown ((r * r + rest) * 2 ^ 64 + w) ((r * 2 * (r * 2) + (rest * 4 + w / 2 ^ 62)) * 2 ^ 64 + (w * 2 ^ 2) % 2 ^ 64) (a * 2 ^ 116) i
           (omega (arith, sq r)) v.5,
     ))
   where
-    back : (j : ℕ) → j ≡ suc j - 1
-    back j = omega arith
-
     sq : (r : ℕ) → r * 2 * (r * 2) ≡ 4 * (r * r)
     sq r = ap (λ (x : ℕ). x * x) (mul_comm r 2) ∙ square_double r
 

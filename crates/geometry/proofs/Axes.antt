@@ -5,9 +5,11 @@ use native.Mathlib.Nat.{lt_of_lt_of_le}
 use native.Mathlib.Omega.{arith}
 use mathlib.Core.Path.{◌≡◌, refl, sym, ap, ◌∙◌, subst}
 use mathlib.Core.Logic.{◌⊎◌, inl, inr}
-use mathlib.Core.Bool.{Bool, true, cond, not, ◌&&◌, ◌||◌, and-true, or-false}
+use mathlib.Core.Bool.{Bool, true, cond, not, ◌&&◌, ◌||◌, and-true, and_assoc, or-false}
 use mathlib.Core.List.{List, [], ◌∷◌, map}
 use lib.Dec.{eqb}
+use Rattle.std.specs.List.{fold, list_any}
+use Rattle.std.proofs.lemmas.List.Recursion.{same_from_clauses}
 use lib.ListN.{length, take, drop, get_or}
 use lib.Seq.{drop-cons, get_or-take}
 use lib.Ieee.{Float}
@@ -18,7 +20,7 @@ use Rattle.basics.proofs.Lists.{take_zip}
 use Rattle.floats.specs.Rounded.{◌⊖◌, ◌⊗◌, ◌⊘◌, zero_f}
 use Rattle.geometry.specs.declared.Position.{Position}
 use Rattle.geometry.specs.declared.Line.{Line}
-use Rattle.geometry.specs.Position.{coords, position_of, axis_of, dimension, every_axis, some_axis}
+use Rattle.geometry.specs.Position.{coords, position_of, axis_of, dimension, coordinate, every_axis, some_axis}
 use Rattle.geometry.specs.Distances.{less, line_of, from, dot, line_square}
 
 -- 2 or 3 as numbers
@@ -55,12 +57,6 @@ corners-most n h = for_axes (λ n. 2 ^ n ≤ 8) (omega arith) (omega arith) n h
 pub coords-length : (n : ℕ) (p : Position) → dimension n ≡ true → length (coords n p) ≡ n
 coords-length n p h = for_axes (λ n. length (coords n p) ≡ n) refl refl n h
 
--- the third axis by its number
-pub axis_last : (i : ℕ) (p : Position) → (i ≡ 0 → ⊥) → (i ≡ 1 → ⊥) → p.z ≡ axis_of i p
-axis_last zero p h k = absurd (h refl)
-axis_last (suc zero) p h k = absurd (k refl)
-axis_last (suc (suc i)) p h k = refl
-
 -- a position made from the first coordinates has +0 on an axis that is not in use
 pub padded : (n : ℕ) (x y z : Float) → dimension n ≡ true → record { x = x; y = y; z = cond (eqb n 3) z zero_f } ≡ position_of (take n (x ∷ y ∷ z ∷ []))
 padded n x y z h = for_axes (λ n. record { x = x; y = y; z = cond (eqb n 3) z zero_f } ≡ position_of (take n (x ∷ y ∷ z ∷ []))) refl refl n h
@@ -92,6 +88,17 @@ any_tests f zero xs = refl
 any_tests f (suc n) [] = refl
 any_tests f (suc n) (x ∷ xs) = rw (any_tests f n xs)
 
+-- the same from the left
+pub every_from_left : {A : Type 0} (f : A → Bool) (b : Bool) (xs : List A) → fold (λ (ok : Bool) (x : A). ok && f x) b xs ≡ (b && all f xs)
+unfolding all
+every_from_left f b [] = sym (and-true b)
+every_from_left f b (x ∷ xs) = every_from_left f (b && f x) xs ∙ and_assoc b (f x) (all f xs)
+
+-- and by std's word
+pub any_is : {A : Type 0} (f : A → Bool) (xs : List A) → list_any f xs ≡ any f xs
+unfolding any
+any_is f xs = same_from_clauses (list_any f) (any f) (λ x b. f x || b) refl (λ x xs. refl) (λ x xs. refl) xs
+
 -- the third answer counts where there are not two axes
 pub every_is : (n : ℕ) (x y z : Bool) → dimension n ≡ true → every_axis n x y z ≡ (x && (y && (eqb n 2 || z)))
 unfolding all
@@ -100,6 +107,10 @@ every_is n x y z h = for_axes (λ n. every_axis n x y z ≡ (x && (y && (eqb n 2
 pub some_is : (n : ℕ) (x y z : Bool) → dimension n ≡ true → some_axis n x y z ≡ (x || (y || (not (eqb n 2) && z)))
 unfolding any
 some_is n x y z h = for_axes (λ n. some_axis n x y z ≡ (x || (y || (not (eqb n 2) && z)))) refl (rw or-false) n h
+
+-- each coordinate judged
+pub judged : (n : ℕ) (p : Position) → all coordinate (coords n p) ≡ every_axis n (coordinate p.x) (coordinate p.y) (coordinate p.z)
+judged n p = all_tests coordinate n (p.x ∷ p.y ∷ p.z ∷ [])
 
 pub all-coords : (f : Float → Bool) (n : ℕ) (p : Position) → dimension n ≡ true → all f (coords n p) ≡ (f p.x && (f p.y && (eqb n 2 || f p.z)))
 all-coords f n p h = all_tests f n (p.x ∷ p.y ∷ p.z ∷ []) ∙ every_is n (f p.x) (f p.y) (f p.z) h
@@ -120,19 +131,23 @@ entries_of {A = A} d n l h e = rw (← e) (go l (two_or_three (length l) (rw e h
 pub coords_of : (n : ℕ) (l : List Float) (p : Position) → dimension n ≡ true → length l ≡ n → p ≡ position_of l → coords n p ≡ l
 coords_of n l p h e f = ap (coords n) f ∙ entries_of zero_f n l h e
 
+-- and these are judged
+pub limits_are : (n : ℕ) (l : List Float) (p : Position) → dimension n ≡ true → length l ≡ n → p ≡ position_of l → all coordinate (coords n p) ≡ all coordinate l
+limits_are n l p h e f = ap (all coordinate) (coords_of n l p h e f)
+
 -- differences of coordinates
 pub coords-less : (n : ℕ) (a b : Position) → coords n (less a b) ≡ from (coords n a) (coords n b)
 unfolding from
 coords-less n a b = take_zip (λ (y x : Float). y ⊖ x) n (b.x ∷ b.y ∷ b.z ∷ []) (a.x ∷ a.y ∷ a.z ∷ [])
 
 -- the same, squared
-pub dot-less : (n : ℕ) (a b d : Position) → d ≡ less a b → dot (coords n d) (coords n d) ≡ dot (from (coords n a) (coords n b)) (from (coords n a) (coords n b))
-dot-less n a b d e = ap (λ (m : Position). dot (coords n m) (coords n m)) e ∙ ap (λ (l : List Float). dot l l) (coords-less n a b)
+pub dot_less : (n : ℕ) (a b d : Position) → d ≡ less a b → dot (coords n d) (coords n d) ≡ dot (from (coords n a) (coords n b)) (from (coords n a) (coords n b))
+dot_less n a b d e = ap (λ (m : Position). dot (coords n m) (coords n m)) e ∙ ap (λ (l : List Float). dot l l) (coords-less n a b)
 
 -- the line that the code makes
-pub line-is : (n : ℕ) (a b d : Position) (nn : Float) → d ≡ less a b → nn ≡ dot (coords n d) (coords n d) → ◌≡◌ {A = Line} (record { a = a; n = d; n_dot_n = nn }) (line_of n a b)
+pub line_is : (n : ℕ) (a b d : Position) (nn : Float) → d ≡ less a b → nn ≡ dot (coords n d) (coords n d) → ◌≡◌ {A = Line} (record { a = a; n = d; n_dot_n = nn }) (line_of n a b)
 unfolding line_of
-line-is n a b d nn e f = rw (f ∙ dot-less n a b d e, e)
+line_is n a b d nn e f = rw (f ∙ dot_less n a b d e, e)
 
 -- The vector from a line to a point, as the code has it: q = x - n * (x ⋅ n) / (n ⋅ n) on all three axes, where x goes from the line's end to the point.
 abbrev pub off : Line → Position → Float → Position

@@ -1,16 +1,16 @@
 -- Module 2: the four distances, each product, quotient and sum rounded once, in the order of the Rust text. One definition serves any number of axes.
 -- Assumes nothing.
-use Rattle.std.specs.Prelude.{ℕ, Bool, not, ◌&&◌, List, [], ◌∷◌, eqb, length, Float}
+use Rattle.std.specs.Prelude.{ℕ, Bool, not, ◌&&◌, List, [], ◌∷◌, eqb, length, Result, Float}
 use Rattle.std.specs.Float.Ieee.{le}
 use Rattle.basics.specs.Lists.{all, fold_all, zip_with}
-use Rattle.basics.specs.Refusals.{Test, refuse, fault, Answer, refused, success, answer}
+use Rattle.basics.specs.Refusals.{Test, refuse, fault, Answer, answer}
+use Rattle.basics.specs.Answers.{answered}
+use Rattle.basics.specs.declared.Refusal.{Refusal}
 use Rattle.floats.specs.Rounded.{◌⊕◌, ◌⊖◌, ◌⊗◌, ◌⊘◌, zero_f, pow2⁻}
 use Rattle.floats.specs.Sqrt.{sqrt_of}
 use Rattle.geometry.specs.Position.{coords, dimension, coordinate}
 use Rattle.geometry.specs.declared.Position.{Position}
 use Rattle.geometry.specs.declared.Line.{Line}
-use Rattle.geometry.specs.declared.Measured.{Measured}
-use Rattle.geometry.specs.declared.Measured.TheVariants.{Distance, Refused}
 
 -- ---- sums of products, from the left, with no zero in front
 
@@ -74,10 +74,9 @@ point_cylinder a b radius p = point_line a b p ⊖ radius
 
 -- ---- what turns a call away, in document 01's order, and what it answers
 
--- the answer's number or its distance
-abbrev pub measured : Measured → Answer Float
-measured (Distance d) = success d
-measured (Refused n) = refused n
+-- the refusal's number, or the distance
+abbrev pub measured : Result Float Refusal → Answer Float
+measured = answered (λ (d : Float). d)
 
 -- between points: 1, 2, 3
 unfoldable pub point_point_tests : List Float → List Float → List Test

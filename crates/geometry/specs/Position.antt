@@ -1,10 +1,11 @@
 -- Positions: a record of three floats, tied to the list of its coordinates on the axes in use. Every definition over the axes is one over such lists.
 -- Assumes nothing.
-use Rattle.std.specs.Prelude.{ℕ, zero, suc, Bool, ◌||◌, List, [], ◌∷◌, eqb, take, get_or, Float}
+use Rattle.std.specs.Prelude.{ℕ, zero, suc, Bool, List, [], ◌∷◌, take, get_or, Float}
 use Rattle.basics.specs.Lists.{all, any}
 use Rattle.floats.specs.Rounded.{zero_f, pow2}
 use Rattle.floats.specs.Tests.{within}
 use Rattle.geometry.specs.declared.Position.{Position}
+pub use Rattle.geometry.specs.Axes.{dimension}
 
 -- the coordinates on the first n axes
 abbrev pub coords : ℕ → Position → List Float
@@ -19,10 +20,6 @@ abbrev pub axis_of : ℕ → Position → Float
 axis_of zero p = p.x
 axis_of (suc zero) p = p.y
 axis_of (suc (suc i)) p = p.z
-
--- 2 or 3 axes
-abbrev pub dimension : ℕ → Bool
-dimension n = eqb n 2 || eqb n 3
 
 -- a coordinate or a radius: finite, of magnitude at most 1,048,576
 abbrev pub coordinate : Float → Bool

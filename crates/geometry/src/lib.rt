@@ -5,12 +5,17 @@
 
 ghost use Rattle.std.specs.Prelude.{ℕ, ◌^◌, ◌≡◌, true, [], ◌∷◌, Float, get_or};
 ghost use Rattle.basics.specs.Lists.{all};
-ghost use Rattle.basics.specs.Refusals.{refuse, fault, answer, through};
-ghost use Rattle.floats.specs.Rounded.{◌⊖◌, zero_f};
+ghost use Rattle.basics.specs.Refusals.{refuse, fault, answer};
+ghost use Rattle.floats.specs.Rounded.{zero_f};
 ghost use Rattle.geometry.specs.Position.{coords, position_of, axis_of, dimension, coordinate, every_axis, some_axis};
 ghost use Rattle.geometry.specs.Distances.{less, line_of, dot as dot_of, point_square, point_point, too_close, line_square, point_line};
 ghost use Rattle.geometry.specs.Distances.{measured, point_point_answer, point_line_answer, point_circle_answer, point_cylinder_answer};
 ghost use Rattle.geometry.specs.Cells.{zetas, doubled_area, triangle_coords, tetrahedron_coords, inside};
+
+mod dimension;
+
+use basics::Refusal;
+pub use dimension::Dimension;
 
 // A position: three coordinates, of which the third is +0 in 2D.
 #[derive(Clone, Copy)]
@@ -32,35 +37,19 @@ pub struct Line {
 #[derive(Clone, Copy)]
 pub struct Zeta(pub f64, pub f64, pub f64, pub f64);
 
-// What a distance function answers.
-#[derive(Clone, Copy)]
-pub enum Measured {
-    Distance(f64),
-    Refused(u64),
-}
-
 // The largest magnitude of a coordinate or a radius: 2^20.
 const LIMIT: f64 = 1048576.0;
-
-// Rust's `f64::EPSILON`: 2^-52.
-const EPSILON: f64 = 2.220446049250313e-16;
-
-// The list's entry, or +0 past its end.
-fn entry(x: &[f64], i: usize) -> f64
-    ensures { result ≡ get_or x.now i zero_f }
-{
-    if i < x.len() { x[i] } else { 0.0 }
-}
 
 impl Position {
     // The position with these coordinates. An axis that the list lacks has +0.
     pub fn new(x: &[f64]) -> Position
         ensures { result ≡ position_of x.now }
     {
+        let on_axis = |i: usize| x.get(i).copied().unwrap_or(0.0);
         Position {
-            x: entry(x, 0),
-            y: entry(x, 1),
-            z: entry(x, 2),
+            x: on_axis(0),
+            y: on_axis(1),
+            z: on_axis(2),
         }
     }
 
@@ -68,60 +57,46 @@ impl Position {
     pub fn axis(self, i: usize) -> f64
         ensures { result ≡ axis_of i self }
     {
-        if i == 0 {
-            self.x
-        } else if i == 1 {
-            self.y
-        } else {
-            self.z
+        match i {
+            0 => self.x,
+            1 => self.y,
+            _ => self.z,
         }
     }
 
     // The position with +0 on an axis that is not in use.
-    pub fn in_use(self, ndim: usize) -> Position
-        requires { dimension ndim ≡ true }
-        ensures { result ≡ position_of (coords ndim self) }
+    pub fn in_use(self, ndim: Dimension) -> Position
+        ensures { result ≡ position_of (coords ndim.n self) }
     {
-        if ndim == 2 {
-            return Position {
-                x: self.x,
-                y: self.y,
-                z: 0.0,
-            };
+        if ndim.n == 2 {
+            Position { z: 0.0, ..self }
+        } else {
+            self
         }
-        self
     }
 }
 
-// Whether there are 2 or 3 axes.
-pub fn is_dimension(ndim: usize) -> bool
-    ensures { result ≡ dimension ndim }
-{
-    (ndim == 2) | (ndim == 3)
-}
-
 // Whether a test is passed along every axis in use, where these are its answers along x, y and z.
-pub fn on_every_axis(ndim: usize, x: bool, y: bool, z: bool) -> bool
-    requires { dimension ndim ≡ true }
-    ensures { result ≡ every_axis ndim x y z }
+#[tactic(auto, using(crate::proofs::Axes::every_is))]
+pub fn on_every_axis(ndim: Dimension, x: bool, y: bool, z: bool) -> bool
+    ensures { result ≡ every_axis ndim.n x y z }
 {
-    x & (y & ((ndim == 2) | z))
+    x & (y & ((ndim.n == 2) | z))
 }
 
 // Whether it is passed along some axis in use.
-pub fn on_some_axis(ndim: usize, x: bool, y: bool, z: bool) -> bool
-    requires { dimension ndim ≡ true }
-    ensures { result ≡ some_axis ndim x y z }
+#[tactic(auto, using(crate::proofs::Axes::some_is))]
+pub fn on_some_axis(ndim: Dimension, x: bool, y: bool, z: bool) -> bool
+    ensures { result ≡ some_axis ndim.n x y z }
 {
-    x | (y | ((ndim != 2) & z))
+    x | (y | ((ndim.n != 2) & z))
 }
 
 // How many corners a square or a cube has.
-pub fn corner_count(ndim: usize) -> usize
-    requires { dimension ndim ≡ true }
-    ensures { result ≡ 2 ^ ndim }
+pub fn corner_count(ndim: Dimension) -> usize
+    ensures { result ≡ 2 ^ ndim.n }
 {
-    if ndim == 2 { 4 } else { 8 }
+    1 << ndim.n
 }
 
 // Whether x may be a coordinate or a radius: finite, of magnitude at most 2^20.
@@ -131,24 +106,18 @@ pub fn is_coordinate(x: f64) -> bool
     floats::is_within(LIMIT, x)
 }
 
-// Whether every entry may be a coordinate. The loop has no other way out, so that a long list is tested several entries at
-// a time.
+// Whether every entry may be a coordinate. Unlike `all`, the fold goes to the end in any case, so that a long list is tested
+// several entries at a time.
 pub fn all_coordinates(x: &[f64]) -> bool
     ensures { result ≡ all coordinate x.now }
 {
-    let mut ok = true;
-    let mut i = 0;
-    while i < x.len() {
-        ok = ok & is_coordinate(x[i]);
-        i += 1;
-    }
-    ok
+    x.iter().fold(true, |ok, v| ok & is_coordinate(*v))
 }
 
 // Whether every coordinate of p on the axes in use is one.
-pub fn position_ok(ndim: usize, p: Position) -> bool
-    requires { dimension ndim ≡ true }
-    ensures { result ≡ all coordinate (coords ndim p) }
+#[tactic(auto, using(crate::proofs::Axes::judged))]
+pub fn position_ok(ndim: Dimension, p: Position) -> bool
+    ensures { result ≡ all coordinate (coords ndim.n p) }
 {
     on_every_axis(
         ndim,
@@ -170,11 +139,11 @@ fn difference(a: Position, b: Position) -> Position
 }
 
 // u ⋅ v, from the left. In 2D there is no third term, as in gemlab: a sum of -0 would lose its sign to +0.
-fn dot(ndim: usize, u: Position, v: Position) -> f64
-    requires { dimension ndim ≡ true }
-    ensures { result ≡ dot_of (coords ndim u) (coords ndim v) }
+#[tactic(auto, using(crate::proofs::Axes::three), unfolding(crate::specs::Distances::dot))]
+fn dot(ndim: Dimension, u: Position, v: Position) -> f64
+    ensures { result ≡ dot_of (coords ndim.n u) (coords ndim.n v) }
 {
-    if ndim == 2 {
+    if ndim.n == 2 {
         u.x * v.x + u.y * v.y
     } else {
         u.x * v.x + u.y * v.y + u.z * v.z
@@ -182,26 +151,26 @@ fn dot(ndim: usize, u: Position, v: Position) -> f64
 }
 
 // The square of the distance between two points.
-pub fn point_square(ndim: usize, a: Position, b: Position) -> f64
-    requires { dimension ndim ≡ true }
-    ensures { result ≡ point_square (coords ndim a) (coords ndim b) }
+#[tactic(auto, using(crate::proofs::Axes::dot_less), unfolding(crate::specs::Distances::point_square))]
+pub fn point_square(ndim: Dimension, a: Position, b: Position) -> f64
+    ensures { result ≡ point_square (coords ndim.n a) (coords ndim.n b) }
 {
     let d = difference(a, b);
     dot(ndim, d, d)
 }
 
 // The distance between two points.
-pub fn point_point(ndim: usize, a: Position, b: Position) -> f64
-    requires { dimension ndim ≡ true }
-    ensures { result ≡ point_point (coords ndim a) (coords ndim b) }
+#[tactic(auto, unfolding(crate::specs::Distances::point_point))]
+pub fn point_point(ndim: Dimension, a: Position, b: Position) -> f64
+    ensures { result ≡ point_point (coords ndim.n a) (coords ndim.n b) }
 {
     floats::sqrt(point_square(ndim, a, b))
 }
 
 // The square of the distance of a point from a line.
-pub fn line_square(ndim: usize, line: Line, c: Position) -> f64
-    requires { dimension ndim ≡ true }
-    ensures { (a b : Position) → line ≡ line_of ndim a b → result ≡ line_square (coords ndim a) (coords ndim b) (coords ndim c) }
+#[tactic(auto, using(crate::proofs::Axes::square_is))]
+pub fn line_square(ndim: Dimension, line: Line, c: Position) -> f64
+    ensures { (a b : Position) → line ≡ line_of ndim.n a b → result ≡ line_square (coords ndim.n a) (coords ndim.n b) (coords ndim.n c) }
 {
     let n = line.n;
     let n_dot_n = line.n_dot_n;
@@ -218,9 +187,9 @@ pub fn line_square(ndim: usize, line: Line, c: Position) -> f64
 }
 
 impl Line {
-    pub fn new(ndim: usize, a: Position, b: Position) -> Line
-        requires { dimension ndim ≡ true }
-        ensures { result ≡ line_of ndim a b }
+    #[tactic(auto, using(crate::proofs::Axes::line_is))]
+    pub fn new(ndim: Dimension, a: Position, b: Position) -> Line
+        ensures { result ≡ line_of ndim.n a b }
     {
         let n = difference(a, b);
         Line {
@@ -234,124 +203,105 @@ impl Line {
     pub fn too_close(self) -> bool
         ensures { (ndim : ℕ) (a b : Position) → self ≡ line_of ndim a b → result ≡ too_close (coords ndim a) (coords ndim b) }
     {
-        self.n_dot_n <= EPSILON
+        self.n_dot_n <= f64::EPSILON
     }
 
     // The distance of a point c to the line.
-    pub fn distance(self, ndim: usize, c: Position) -> f64
-        requires { dimension ndim ≡ true }
-        ensures { (a b : Position) → self ≡ line_of ndim a b → result ≡ point_line (coords ndim a) (coords ndim b) (coords ndim c) }
+    #[tactic(auto, unfolding(crate::specs::Distances::point_line))]
+    pub fn distance(self, ndim: Dimension, c: Position) -> f64
+        ensures { (a b : Position) → self ≡ line_of ndim.n a b → result ≡ point_line (coords ndim.n a) (coords ndim.n b) (coords ndim.n c) }
     {
         floats::sqrt(line_square(ndim, self, c))
     }
 }
 
 // Whether the ends of a line are too close: n ⋅ n, with n = b - a, is at most 2^-52.
-pub fn too_close(ndim: usize, a: Position, b: Position) -> bool
-    requires { dimension ndim ≡ true }
-    ensures { result ≡ too_close (coords ndim a) (coords ndim b) }
+pub fn too_close(ndim: Dimension, a: Position, b: Position) -> bool
+    ensures { result ≡ too_close (coords ndim.n a) (coords ndim.n b) }
 {
     Line::new(ndim, a, b).too_close()
 }
 
 // The distance between two points, or the refusal 1, 2 or 3.
-pub fn point_point_distance(a: &[f64], b: &[f64]) -> Measured
+#[tactic(auto, using(crate::proofs::Axes::limits_are), unfolding(crate::specs::Distances::point_point_answer))]
+pub fn point_point_distance(a: &[f64], b: &[f64]) -> Result<f64, Refusal>
     ensures { measured result ≡ point_point_answer a.now b.now }
 {
-    let ndim = a.len();
-    if !is_dimension(ndim) {
-        return Measured::Refused(1);
-    }
-    if b.len() != ndim {
-        return Measured::Refused(2);
+    let ndim = Dimension::try_from(a.len())?;
+    if b.len() != ndim.n {
+        return Err(Refusal::Length);
     }
     let pa = Position::new(a);
     let pb = Position::new(b);
     if !(position_ok(ndim, pa) & position_ok(ndim, pb)) {
-        return Measured::Refused(3);
+        return Err(Refusal::Limit);
     }
-    Measured::Distance(point_point(ndim, pa, pb))
+    Ok(point_point(ndim, pa, pb))
 }
 
 // The distance of c to the line through a and b, or the refusal 15.
-fn line_distance(ndim: usize, a: Position, b: Position, c: Position) -> Measured
-    requires { dimension ndim ≡ true }
-    ensures { measured result ≡ answer (fault (refuse 15 (too_close (coords ndim a) (coords ndim b)) ∷ [])) (point_line (coords ndim a) (coords ndim b) (coords ndim c)) }
+#[tactic(auto, unfolding(basics::specs::Refusals::fault, basics::specs::Refusals::answer))]
+fn line_distance(ndim: Dimension, a: Position, b: Position, c: Position) -> Result<f64, Refusal>
+    ensures { measured result ≡ answer (fault (refuse 15 (too_close (coords ndim.n a) (coords ndim.n b)) ∷ [])) (point_line (coords ndim.n a) (coords ndim.n b) (coords ndim.n c)) }
 {
     let line = Line::new(ndim, a, b);
     if line.too_close() {
-        return Measured::Refused(15);
+        return Err(Refusal::Close);
     }
-    Measured::Distance(line.distance(ndim, c))
-}
-
-// The distance to a centre less the radius.
-fn reduced(center: Measured, radius: f64) -> Measured
-    ensures { measured result ≡ through (λ (d : Float). d ⊖ radius) (measured center) }
-{
-    match center {
-        Measured::Distance(d) => Measured::Distance(d - radius),
-        Measured::Refused(n) => Measured::Refused(n),
-    }
+    Ok(line.distance(ndim, c))
 }
 
 // The distance of c to the line through a and b, or the refusal 1, 2, 3 or 15.
-pub fn point_line_distance(a: &[f64], b: &[f64], c: &[f64]) -> Measured
+#[tactic(auto, using(crate::proofs::Axes::limits_are), unfolding(crate::specs::Distances::point_line_answer))]
+pub fn point_line_distance(a: &[f64], b: &[f64], c: &[f64]) -> Result<f64, Refusal>
     ensures { measured result ≡ point_line_answer a.now b.now c.now }
 {
-    let ndim = a.len();
-    if !is_dimension(ndim) {
-        return Measured::Refused(1);
-    }
-    if !((b.len() == ndim) & (c.len() == ndim)) {
-        return Measured::Refused(2);
+    let ndim = Dimension::try_from(a.len())?;
+    if !((b.len() == ndim.n) & (c.len() == ndim.n)) {
+        return Err(Refusal::Length);
     }
     let pa = Position::new(a);
     let pb = Position::new(b);
     let pc = Position::new(c);
     if !(position_ok(ndim, pa) & (position_ok(ndim, pb) & position_ok(ndim, pc))) {
-        return Measured::Refused(3);
+        return Err(Refusal::Limit);
     }
     line_distance(ndim, pa, pb, pc)
 }
 
 // The signed distance of p to a circle in the plane, negative inside, or the refusal 1, 16, 2 or 3.
-pub fn point_circle_distance(center: &[f64], radius: f64, p: &[f64]) -> Measured
+#[tactic(auto, using(crate::proofs::Axes::limits_are), unfolding(crate::specs::Distances::point_circle_answer))]
+pub fn point_circle_distance(center: &[f64], radius: f64, p: &[f64]) -> Result<f64, Refusal>
     ensures { measured result ≡ point_circle_answer center.now radius p.now }
 {
-    let ndim = center.len();
-    if !is_dimension(ndim) {
-        return Measured::Refused(1);
+    let ndim = Dimension::try_from(center.len())?;
+    if ndim.n != 2 {
+        return Err(Refusal::Unfit);
     }
-    if ndim != 2 {
-        return Measured::Refused(16);
-    }
-    if p.len() != ndim {
-        return Measured::Refused(2);
+    if p.len() != ndim.n {
+        return Err(Refusal::Length);
     }
     let pc = Position::new(center);
     let pp = Position::new(p);
     if !(position_ok(ndim, pc) & (is_coordinate(radius) & position_ok(ndim, pp))) {
-        return Measured::Refused(3);
+        return Err(Refusal::Limit);
     }
     let center_distance = point_point(ndim, pc, pp);
-    Measured::Distance(center_distance - radius)
+    Ok(center_distance - radius)
 }
 
 // The signed distance of p to the cylinder in space whose axis goes through a and b, negative inside, or the refusal
 // 1, 16, 2, 3 or 15.
-pub fn point_cylinder_distance(a: &[f64], b: &[f64], radius: f64, p: &[f64]) -> Measured
+#[tactic(auto, using(crate::proofs::Axes::limits_are), unfolding(crate::specs::Distances::point_cylinder_answer))]
+pub fn point_cylinder_distance(a: &[f64], b: &[f64], radius: f64, p: &[f64]) -> Result<f64, Refusal>
     ensures { measured result ≡ point_cylinder_answer a.now b.now radius p.now }
 {
-    let ndim = a.len();
-    if !is_dimension(ndim) {
-        return Measured::Refused(1);
+    let ndim = Dimension::try_from(a.len())?;
+    if ndim.n != 3 {
+        return Err(Refusal::Unfit);
     }
-    if ndim != 3 {
-        return Measured::Refused(16);
-    }
-    if !((b.len() == ndim) & (p.len() == ndim)) {
-        return Measured::Refused(2);
+    if !((b.len() == ndim.n) & (p.len() == ndim.n)) {
+        return Err(Refusal::Length);
     }
     let pa = Position::new(a);
     let pb = Position::new(b);
@@ -359,12 +309,14 @@ pub fn point_cylinder_distance(a: &[f64], b: &[f64], radius: f64, p: &[f64]) -> 
     if !(position_ok(ndim, pa)
         & (position_ok(ndim, pb) & (is_coordinate(radius) & position_ok(ndim, pp))))
     {
-        return Measured::Refused(3);
+        return Err(Refusal::Limit);
     }
-    reduced(line_distance(ndim, pa, pb, pp), radius)
+    let axis_distance = line_distance(ndim, pa, pb, pp)?;
+    Ok(axis_distance - radius)
 }
 
 // Twice the area of the triangle xa, xb, xc, below zero where they turn clockwise: `a2` in gemlab.
+#[tactic(auto, unfolding(crate::specs::Cells::doubled_area))]
 pub fn doubled_area(xa: Position, xb: Position, xc: Position) -> f64
     ensures { result ≡ doubled_area xa xb xc }
 {
@@ -373,6 +325,7 @@ pub fn doubled_area(xa: Position, xb: Position, xc: Position) -> f64
 
 // The three coordinates of xp in the triangle xa, xb, xc: with xp in the place of each corner gemlab's text works out the very
 // terms of `a2`.
+#[tactic(auto, unfolding(crate::specs::Cells::triangle_coords))]
 pub fn triangle_coords(xa: Position, xb: Position, xc: Position, xp: Position) -> Zeta
     ensures { result ≡ triangle_coords xa xb xc xp }
 {
@@ -385,14 +338,22 @@ pub fn triangle_coords(xa: Position, xb: Position, xc: Position, xp: Position) -
     )
 }
 
-// Whether the point with these coordinates is in the triangle. A NaN is not below zero, so it counts as inside.
+// Whether the point with these coordinates is in the cell. A NaN is not below zero, so it counts as inside.
+fn is_inside<const N: usize>(zeta: [f64; N]) -> bool
+    ensures { result ≡ inside zero_f zeta.entry }
+{
+    !zeta.iter().any(|z| *z < 0.0)
+}
+
+// Whether the point with these coordinates is in the triangle.
 pub fn in_triangle(zeta: Zeta) -> bool
     ensures { result ≡ inside zero_f (zetas 3 zeta) }
 {
-    !((zeta.0 < 0.0) | ((zeta.1 < 0.0) | (zeta.2 < 0.0)))
+    is_inside([zeta.0, zeta.1, zeta.2])
 }
 
 // The four coordinates of xp in the tetrahedron xa, xb, xc, xd.
+#[tactic(auto, unfolding(crate::specs::Cells::tetrahedron_coords))]
 pub fn tetrahedron_coords(
     xa: Position,
     xb: Position,
@@ -444,9 +405,9 @@ pub fn tetrahedron_coords(
     )
 }
 
-// Whether the point with these coordinates is in the tetrahedron. A NaN is not below zero, so it counts as inside.
+// Whether the point with these coordinates is in the tetrahedron.
 pub fn in_tetrahedron(zeta: Zeta) -> bool
     ensures { result ≡ inside zero_f (zetas 4 zeta) }
 {
-    !((zeta.0 < 0.0) | ((zeta.1 < 0.0) | ((zeta.2 < 0.0) | (zeta.3 < 0.0))))
+    is_inside([zeta.0, zeta.1, zeta.2, zeta.3])
 }

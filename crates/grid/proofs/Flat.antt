@@ -10,7 +10,7 @@ use lib.ListN.{take}
 use lib.Ieee.{Float, lt}
 use Rattle.basics.proofs.Bools.{by_test}
 use Rattle.basics.specs.Lists.{any}
-use Rattle.grid.specs.declared.Along.TheVariants as axis
+use Rattle.std.specs.Prelude.{Some, None}
 use Rattle.grid.specs.Containers.{outside, inner, along, combine, containers}
 use Rattle.grid.proofs.Keys.{digit-below}
 
@@ -44,21 +44,21 @@ third-index x y z key X Y h =
     turned x y z = rw mul-one (sym (mul_assoc x y z) ∙ mul_comm (x * y) z)
 
 -- ---- the index along an axis
-pub along_far : (n r : ℕ) → along n r ≡ axis.Exceeds → ltb n r ≡ true
+pub along_far : (n r : ℕ) → along n r ≡ None → ltb n r ≡ true
 unfolding along
 along_far n r e = by_test (ltb n r) (λ t. t) (λ t. never (rw t at e))
   where
-    never : {A : Type 0} {i : ℕ} → axis.Index i ≡ axis.Exceeds → A
+    never : {A : Type 0} {i : ℕ} → Some i ≡ None → A
     never e = let z : ◌≡◌ {A = ℕ} 0 1 = cc in absurd (omega arith)
 
-pub along-index : (n r i : ℕ) → along n r ≡ axis.Index i → (ltb n r ≡ false) × (inner n r ≡ i)
+pub along-index : (n r i : ℕ) → along n r ≡ Some i → (ltb n r ≡ false) × (inner n r ≡ i)
 unfolding along
 along-index n r i e = by_test (ltb n r) (λ t. never (rw t at e)) (λ t. (t, same (rw t at e)))
   where
-    never : {A : Type 0} {i : ℕ} → axis.Exceeds ≡ axis.Index i → A
+    never : {A : Type 0} {i : ℕ} → None ≡ Some i → A
     never e = let z : ◌≡◌ {A = ℕ} 0 1 = cc in absurd (omega arith)
 
-    same : axis.Index (inner n r) ≡ axis.Index i → inner n r ≡ i
+    same : Some (inner n r) ≡ Some i → inner n r ≡ i
     same f = cc
 
 -- ---- outside, by the test along each axis

@@ -14,7 +14,7 @@ use Rattle.geometry.specs.declared.Position.{Position}
 use Rattle.geometry.specs.Position.{coords, dimension}
 use Rattle.geometry.proofs.Axes.{for_axes, entries_of}
 use Rattle.grid.specs.declared.Divisions.{Divisions}
-use Rattle.grid.specs.declared.Located.TheVariants.{Key, Exceeds}
+use Rattle.std.specs.Prelude.{Some, None}
 use Rattle.grid.specs.declared.Pivot.{Pivot}
 use Rattle.grid.specs.Divisions.{counts, divisions_of, division}
 use Rattle.grid.proofs.Keys.{pivots-below}
@@ -53,7 +53,7 @@ module _ (n : ℕ) (h : dimension n ≡ true) (d e : Divisions) (u : e ≡ divis
   pub located-is : (side : Float) (xmin x : Position)
       → let t : Float → Float → ℕ = λ (a b : Float). truncate ((a ⊖ b) ⊘ side) in
       let rs = t x.x xmin.x ∷ t x.y xmin.y ∷ cond (eqb n 3) (t x.z xmin.z) 0 ∷ [] in
-      located (counts n d) side (coords n xmin) (coords n x) ≡ cond (exceed (counts 3 e) rs) Exceeds (Key (record { 0 = combine (counts 3 e) (zip_with inner (counts 3 e) rs) }))
+      located (counts n d) side (coords n xmin) (coords n x) ≡ cond (exceed (counts 3 e) rs) None (Some (record { 0 = combine (counts 3 e) (zip_with inner (counts 3 e) rs) }))
   unfolding located key_of ratios exceed combine zip_with inner
   located-is side xmin x =
       rw u
@@ -61,7 +61,7 @@ module _ (n : ℕ) (h : dimension n ≡ true) (d e : Divisions) (u : e ≡ divis
       (λ n. let t : Float → Float → ℕ = λ (a b : Float). truncate ((a ⊖ b) ⊘ side) in
       let ns = counts 3 (divisions_of (counts n d)) in
       let rs = t x.x xmin.x ∷ t x.y xmin.y ∷ cond (eqb n 3) (t x.z xmin.z) 0 ∷ [] in
-      located (counts n d) side (coords n xmin) (coords n x) ≡ cond (exceed ns rs) Exceeds (Key (record { 0 = combine ns (zip_with inner ns rs) })))
+      located (counts n d) side (coords n xmin) (coords n x) ≡ cond (exceed ns rs) None (Some (record { 0 = combine ns (zip_with inner ns rs) })))
       refl refl n h)
 
 -- ---- the indices of a key

@@ -1,13 +1,10 @@
 -- Module 4: the container of a position, and back from a container's key to its indices and centre. One definition serves any number of axes.
 -- Assumes nothing.
-use Rattle.std.specs.Prelude.{ℕ, ◌+◌, ◌-◌, ◌*◌, ◌/◌, ◌%◌, ◌<◌, Bool, false, cond, ◌||◌, List, [], ◌∷◌, ltb, eqb, take, get_or, Float}
+use Rattle.std.specs.Prelude.{ℕ, ◌+◌, ◌-◌, ◌*◌, ◌/◌, ◌%◌, ◌<◌, Bool, false, cond, ◌||◌, List, [], ◌∷◌, ltb, eqb, take, get_or, Float, Option, Some, None}
 use Rattle.std.specs.Float.Ieee.{lt}
 use Rattle.basics.specs.Lists.{zip_with}
 use Rattle.floats.specs.Rounded.{◌⊕◌, ◌⊖◌, ◌⊗◌, ◌⊘◌, of_nat, truncate, pow2}
-use Rattle.grid.specs.declared.Along.{Along}
-use Rattle.grid.specs.declared.Along.TheVariants as axis
-use Rattle.grid.specs.declared.Located.{Located}
-use Rattle.grid.specs.declared.Located.TheVariants.{Key, Exceeds}
+use Rattle.grid.specs.declared.ContainerKey.{ContainerKey}
 use Rattle.grid.specs.declared.Pivot.{Pivot}
 
 -- below the low corner or above the high one on some axis
@@ -33,15 +30,15 @@ exceed (n ∷ ns) [] = false
 unfoldable pub inner : ℕ → ℕ → ℕ
 inner n r = cond (eqb r n) (r - 1) r
 
--- the index of a ratio along an axis, or that it exceeds the divisions
-unfoldable pub along : ℕ → ℕ → Along
+-- the index of a ratio along an axis, or none where it exceeds the divisions
+unfoldable pub along : ℕ → ℕ → Option ℕ
 unfolding inner
-along n r = cond (ltb n r) axis.Exceeds (axis.Index (inner n r))
+along n r = cond (ltb n r) None (Some (inner n r))
 
 -- an index is below the divisions
-abbrev pub Fits : ℕ → Along → Type 0
-Fits n axis.Exceeds = Unit {0}
-Fits n (axis.Index i) = i < n
+abbrev pub Fits : ℕ → Option ℕ → Type 0
+Fits n None = Unit {0}
+Fits n (Some i) = i < n
 
 -- i + j·n0 + k·n0·n1, as i + n0·(j + n1·k)
 unfoldable pub combine : List ℕ → List ℕ → ℕ
@@ -60,10 +57,10 @@ unfoldable pub key_of : List ℕ → Float → List Float → List Float → ℕ
 unfolding combine zip_with inner ratios
 key_of ns side xmin x = combine ns (zip_with inner ns (ratios side xmin x))
 
--- where a position falls: refusal 17, or the key of its container
-unfoldable pub located : List ℕ → Float → List Float → List Float → Located
+-- where a position falls: the key of its container, or none where 17 applies
+unfoldable pub located : List ℕ → Float → List Float → List Float → Option ContainerKey
 unfolding exceed ratios key_of
-located ns side xmin x = cond (exceed ns (ratios side xmin x)) Exceeds (Key (record { 0 = key_of ns side xmin x }))
+located ns side xmin x = cond (exceed ns (ratios side xmin x)) None (Some (record { 0 = key_of ns side xmin x }))
 
 -- how many containers there are: keys are below this
 unfoldable pub containers : List ℕ → ℕ

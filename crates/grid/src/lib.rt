@@ -10,14 +10,14 @@ ghost use Rattle.geometry.specs.Position.{coords, position_of, dimension};
 ghost use Rattle.grid.specs.Divisions.{counts, divisions_of, division, longer as longer_of, longest as longest_of, share as share_of, num_divisions};
 ghost use Rattle.grid.specs.Containers.{outside, inner as inner_of, along, Fits, combine, located, containers, indices, pivot_of, pivots, centre, InGrid};
 
-use geometry::Position;
+use geometry::{Dimension, Position};
 
 // The number of a container.
 #[derive(Clone, Copy)]
 pub struct ContainerKey(pub u64);
 
 // The divisions along each axis: 1 along the third in 2D.
-#[derive(Clone, Copy)]
+#[derive(Clone, Copy, PartialEq, Eq)]
 pub struct Divisions {
     pub x: u64,
     pub y: u64,
@@ -31,20 +31,6 @@ pub struct Longest {
     pub delta: f64,
 }
 
-// The container that a position falls into, or that a ratio exceeds its divisions.
-#[derive(Clone, Copy)]
-pub enum Located {
-    Key(ContainerKey),
-    Exceeds,
-}
-
-// The index of a container along an axis, or that the ratio exceeds its divisions.
-#[derive(Clone, Copy)]
-enum Along {
-    Index(u64),
-    Exceeds,
-}
-
 // The indices of a container along each axis: 0 along the third in 2D.
 #[derive(Clone, Copy)]
 pub struct Pivot {
@@ -55,11 +41,10 @@ pub struct Pivot {
 
 impl Divisions {
     // The divisions with 1 along an axis that is not in use.
-    pub fn in_use(self, ndim: usize) -> Divisions
-        requires { dimension ndim ≡ true }
-        ensures { result ≡ divisions_of (counts ndim self) }
+    pub fn in_use(self, ndim: Dimension) -> Divisions
+        ensures { result ≡ divisions_of (counts ndim.n self) }
     {
-        if ndim == 2 {
+        if ndim.n == 2 {
             return Divisions {
                 x: self.x,
                 y: self.y,
@@ -78,9 +63,8 @@ fn is_division(n: u64) -> bool
 }
 
 // Whether there are along each axis in use.
-pub fn divisions_ok(ndim: usize, ndiv: Divisions) -> bool
-    requires { dimension ndim ≡ true }
-    ensures { result ≡ all division (counts ndim ndiv) }
+pub fn divisions_ok(ndim: Dimension, ndiv: Divisions) -> bool
+    ensures { result ≡ all division (counts ndim.n ndiv) }
 {
     geometry::on_every_axis(
         ndim,
@@ -102,18 +86,15 @@ fn longer(best: Longest, axis: usize, delta: f64) -> Longest
 }
 
 // The first longest axis.
-fn longest_axis(ndim: usize, delta: Position) -> Longest
-    requires { dimension ndim ≡ true }
-    ensures { result ≡ longest_of (coords ndim delta) }
+fn longest_axis(ndim: Dimension, delta: Position) -> Longest
+    ensures { result ≡ longest_of (coords ndim.n delta) }
 {
     let mut best = Longest {
         axis: 0,
         delta: delta.x,
     };
-    let mut i = 1;
-    while i < ndim {
-        best = longer(best, i, delta.axis(i));
-        i += 1;
+    for axis in 1..ndim.n {
+        best = longer(best, axis, delta.axis(axis));
     }
     best
 }
@@ -126,18 +107,16 @@ fn share(ndiv_long: u64, long: Longest, axis: usize, delta: f64) -> u64
     if axis == long.axis {
         return ndiv_long;
     }
-    let n = floats::truncated((delta / long.delta) * (ndiv_long as f64));
-    if n < 1 {
-        return 1;
-    }
-    n
+    u64::max(
+        1,
+        floats::truncated((delta / long.delta) * (ndiv_long as f64)),
+    )
 }
 
 // The divisions of a box whose longest axis has `ndiv_long` of them.
-pub fn num_divisions(ndim: usize, ndiv_long: u64, xmin: Position, xmax: Position) -> Divisions
-    requires fact_1 { dimension ndim ≡ true }
-    requires fact_2 { ndiv_long ≤ 1024 }
-    ensures { result ≡ divisions_of (num_divisions ndiv_long (coords ndim xmin) (coords ndim xmax)) }
+pub fn num_divisions(ndim: Dimension, ndiv_long: u64, xmin: Position, xmax: Position) -> Divisions
+    requires most { ndiv_long ≤ 1024 }
+    ensures { result ≡ divisions_of (num_divisions ndiv_long (coords ndim.n xmin) (coords ndim.n xmax)) }
 {
     let delta = Position {
         x: xmax.x - xmin.x,
@@ -157,16 +136,12 @@ pub fn num_divisions(ndim: usize, ndiv_long: u64, xmin: Position, xmax: Position
 fn is_beyond(xmin: f64, xmax: f64, x: f64) -> bool
     ensures { result ≡ (lt x xmin || lt xmax x) }
 {
-    if x < xmin {
-        return true;
-    }
-    x > xmax
+    x < xmin || x > xmax
 }
 
 // Whether a position is outside the box on some axis.
-pub fn is_outside(ndim: usize, xmin: Position, xmax: Position, x: Position) -> bool
-    requires { dimension ndim ≡ true }
-    ensures { result ≡ outside (coords ndim xmin) (coords ndim xmax) (coords ndim x) }
+pub fn is_outside(ndim: Dimension, xmin: Position, xmax: Position, x: Position) -> bool
+    ensures { result ≡ outside (coords ndim.n xmin) (coords ndim.n xmax) (coords ndim.n x) }
 {
     geometry::on_some_axis(
         ndim,
@@ -185,80 +160,70 @@ fn ratio(side_length: f64, xmin: f64, x: f64) -> u64
 
 // The index of a ratio that does not exceed its divisions: on the high edge the last one.
 fn inner(n: u64, ratio: u64) -> u64
-    requires fact_1 { 1 ≤ n }
-    requires fact_2 { ratio ≤ n }
-    ensures fact_1 { result ≡ inner_of n ratio }
-    ensures fact_2 { result < n }
+    requires some { 1 ≤ n }
+    requires within { ratio ≤ n }
+    ensures value { result ≡ inner_of n ratio }
+    ensures in_range { result < n }
 {
     if ratio < n { ratio } else { n - 1 }
 }
 
-// The index of the container that x falls into along an axis: 0 on an axis that is not in use.
-fn index_along(in_use: bool, n: u64, side_length: f64, xmin: f64, x: f64) -> Along
+// The index of the container that x falls into along an axis, or none where the ratio exceeds its divisions: 0 on an axis that is
+// not in use.
+fn index_along(in_use: bool, n: u64, side_length: f64, xmin: f64, x: f64) -> Option<u64>
     requires { 1 ≤ n }
-    ensures fact_1 { result ≡ along n (cond in_use (truncate ((x ⊖ xmin) ⊘ side_length)) 0) }
-    ensures fact_2 { Fits n result }
+    ensures value { result ≡ along n (cond in_use (truncate ((x ⊖ xmin) ⊘ side_length)) 0) }
+    ensures in_range { Fits n result }
 {
     if !in_use {
-        return Along::Index(0);
+        return Some(0);
     }
     let r = ratio(side_length, xmin, x);
-    if r > n {
-        return Along::Exceeds;
-    }
-    Along::Index(inner(n, r))
+    if r > n { None } else { Some(inner(n, r)) }
 }
 
 // The key of the container with these indices.
 fn combined(ndiv: Divisions, pivot: Pivot) -> u64
-    requires fact_1 { all division (counts 3 ndiv) ≡ true }
-    requires fact_2 { InGrid (counts 3 ndiv) (indices 3 pivot) }
+    requires divisions { all division (counts 3 ndiv) ≡ true }
+    requires in_grid { InGrid (counts 3 ndiv) (indices 3 pivot) }
     ensures { result ≡ combine (counts 3 ndiv) (indices 3 pivot) }
 {
     pivot.i + pivot.j * ndiv.x + pivot.k * ndiv.x * ndiv.y
 }
 
-// The container that a position falls into. In 2D the third axis, with one division and the index 0, adds nothing.
+// The container that a position falls into, or none where a ratio exceeds its divisions. In 2D the third axis, with one division
+// and the index 0, adds nothing.
 pub fn calc_container_key(
-    ndim: usize,
+    ndim: Dimension,
     side_length: f64,
     ndiv: Divisions,
     xmin: Position,
     x: Position,
-) -> Located
-    requires fact_1 { dimension ndim ≡ true }
-    requires fact_2 { all division (counts ndim ndiv) ≡ true }
-    ensures { result ≡ located (counts ndim ndiv) side_length (coords ndim xmin) (coords ndim x) }
+) -> Option<ContainerKey>
+    requires divisions { all division (counts ndim.n ndiv) ≡ true }
+    ensures { result ≡ located (counts ndim.n ndiv) side_length (coords ndim.n xmin) (coords ndim.n x) }
 {
     let n = ndiv.in_use(ndim);
-    let Along::Index(i) = index_along(true, n.x, side_length, xmin.x, x.x) else {
-        return Located::Exceeds;
-    };
-    let Along::Index(j) = index_along(true, n.y, side_length, xmin.y, x.y) else {
-        return Located::Exceeds;
-    };
-    let Along::Index(k) = index_along(ndim == 3, n.z, side_length, xmin.z, x.z) else {
-        return Located::Exceeds;
-    };
-    Located::Key(ContainerKey(combined(n, Pivot { i, j, k })))
+    let i = index_along(true, n.x, side_length, xmin.x, x.x)?;
+    let j = index_along(true, n.y, side_length, xmin.y, x.y)?;
+    let k = index_along(ndim.n == 3, n.z, side_length, xmin.z, x.z)?;
+    Some(ContainerKey(combined(n, Pivot { i, j, k })))
 }
 
 // How many containers there are.
-pub fn container_count(ndim: usize, ndiv: Divisions) -> u64
-    requires fact_1 { dimension ndim ≡ true }
-    requires fact_2 { all division (counts ndim ndiv) ≡ true }
-    ensures { result ≡ containers (counts ndim ndiv) }
+pub fn container_count(ndim: Dimension, ndiv: Divisions) -> u64
+    requires divisions { all division (counts ndim.n ndiv) ≡ true }
+    ensures { result ≡ containers (counts ndim.n ndiv) }
 {
     let n = ndiv.in_use(ndim);
     n.x * n.y * n.z
 }
 
 // The indices of a container. In 2D the third is 0.
-pub fn pivot_indices(ndim: usize, ndiv: Divisions, key: ContainerKey) -> Pivot
-    requires fact_1 { dimension ndim ≡ true }
-    requires fact_2 { all division (counts ndim ndiv) ≡ true }
-    requires fact_3 { key.0 < containers (counts ndim ndiv) }
-    ensures { result ≡ pivot_of (pivots (counts ndim ndiv) key.0) }
+pub fn pivot_indices(ndim: Dimension, ndiv: Divisions, key: ContainerKey) -> Pivot
+    requires divisions { all division (counts ndim.n ndiv) ≡ true }
+    requires key_in_range { key.0 < containers (counts ndim.n ndiv) }
+    ensures { result ≡ pivot_of (pivots (counts ndim.n ndiv) key.0) }
 {
     let d = ndiv.in_use(ndim);
     let n = d.x * d.y;
@@ -283,21 +248,20 @@ fn middle(in_use: bool, side_length: f64, xmin: f64, i: u64) -> f64
 
 // The centre of a container.
 pub fn container_center(
-    ndim: usize,
+    ndim: Dimension,
     side_length: f64,
     ndiv: Divisions,
     xmin: Position,
     key: ContainerKey,
 ) -> Position
-    requires fact_1 { dimension ndim ≡ true }
-    requires fact_2 { all division (counts ndim ndiv) ≡ true }
-    requires fact_3 { key.0 < containers (counts ndim ndiv) }
-    ensures { result ≡ position_of (centre side_length (coords ndim xmin) (pivots (counts ndim ndiv) key.0)) }
+    requires divisions { all division (counts ndim.n ndiv) ≡ true }
+    requires key_in_range { key.0 < containers (counts ndim.n ndiv) }
+    ensures { result ≡ position_of (centre side_length (coords ndim.n xmin) (pivots (counts ndim.n ndiv) key.0)) }
 {
     let pivot = pivot_indices(ndim, ndiv, key);
     Position {
         x: middle(true, side_length, xmin.x, pivot.i),
         y: middle(true, side_length, xmin.y, pivot.j),
-        z: middle(ndim == 3, side_length, xmin.z, pivot.k),
+        z: middle(ndim.n == 3, side_length, xmin.z, pivot.k),
     }
 }

@@ -6,7 +6,7 @@ use lib.Ieee.{add, sub, mul, div, of_int, to_unsigned}
 use Rattle.basics.specs.Refusals.{refused}
 use Rattle.floats.specs.Rounded.{zero_f, pow2}
 use Rattle.floats.specs.Tests.{within}
-use Rattle.grid_search.specs.declared.GivenF64.TheVariants.{LeftOut, Given}
+use Rattle.std.specs.Prelude.{Some, None}
 use Rattle.grid_cells.specs.declared.GridCells.{GridCells}
 use Rattle.mesh.specs.Mesh.{Mesh}
 use Rattle.cell_sizes.specs.declared.Settings.{Settings}
@@ -18,11 +18,11 @@ triangle = record { points = zero_f ∷ zero_f ∷ pow2 2 ∷ zero_f ∷ zero_f 
 
 unfoldable pub defaults : Settings
 unfolding settings_of
-defaults = settings_of LeftOut LeftOut LeftOut LeftOut
+defaults = settings_of None None None None
 
 all_large : Settings
 unfolding settings_of
-all_large = settings_of LeftOut LeftOut LeftOut (Given (pow2 0))
+all_large = settings_of None None None (Some (pow2 0))
 
 lent : IndexLists
 lent = record { keys = 7 ∷ 7 ∷ 7 ∷ 7 ∷ []; cells = 8 ∷ 8 ∷ 8 ∷ 8 ∷ []; large = 9 ∷ [] }

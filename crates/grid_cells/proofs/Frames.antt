@@ -4,15 +4,15 @@ use Prim.Native.Nat.{ℕ, suc}
 use native.Mathlib.Omega.{arith}
 use mathlib.Core.Path.{◌≡◌, refl, sym, ap, ◌∙◌}
 use mathlib.Core.Bool.{Bool, true, false, not, ◌&&◌}
-use mathlib.Core.Option.{Option}
+use mathlib.Core.Option.{Option, none, some}
 use mathlib.Core.List.{List, [], ◌∷◌, map}
 use lib.Dec.{eqb}
 use lib.ListN.{length}
 use lib.Ieee.{Float}
 use Rattle.basics.proofs.Bools.{or_right}
 use Rattle.basics.specs.Lists.{all, any, zip_with}
-use Rattle.basics.specs.Refusals.{fault, code, refused, success, answer}
-use Rattle.basics.proofs.Refusals.{unrefused, code-some, code-none, Numbered}
+use Rattle.basics.specs.Refusals.{fault, refused, success, answer}
+use Rattle.basics.proofs.Refusals.{unrefused}
 use Rattle.floats.specs.Rounded.{◌⊕◌, ◌⊗◌, pow2}
 use Rattle.geometry.specs.declared.Position.{Position}
 use Rattle.geometry.specs.Position.{coords, position_of, dimension}
@@ -25,14 +25,10 @@ use Rattle.cell_sizes.specs.declared.Settings.{Settings}
 use Rattle.cell_sizes.specs.declared.Sizes.{Sizes}
 use Rattle.cell_sizes.specs.Large.{boxes, Measured, measure, nothing_filed}
 use Rattle.grid_cells.specs.Build.{low_corner, high_corner, cell_side, cell_divisions, index, division_tests, frame_tests}
-use Rattle.cell_sizes.specs.Steps.{Sized}
+use Rattle.cell_sizes.specs.Steps.{Sized, kept, count_in}
 use Rattle.cell_sizes.proofs.Boxes.{length-boxes}
 use Rattle.grid_search.proofs.Laws.{lowered-length, raised-length}
 use Rattle.grid_cells.proofs.Ways.{divided}
-
-numbers : (low high : List Float) (ns : List ℕ) → Numbered (division_tests low high ns)
-unfolding division_tests
-numbers low high ns = (λ e. omega arith, (λ e. omega arith, tt))
 
 length_zip : {A B C : Type 0} (f : A → B → C) (xs : List A) (ys : List B) → length xs ≡ length ys → length (zip_with f xs ys) ≡ length xs
 unfolding zip_with
@@ -41,10 +37,10 @@ length_zip f (x ∷ xs) [] e = absurd (omega arith)
 length_zip f (x ∷ xs) (y ∷ ys) e = ap suc (length_zip f xs ys (omega arith))
 
 -- no test fails: every axis has from 1 to 1,024 divisions
-pub frame_divided : (low high : List Float) (ns : List ℕ) {r : ℕ} → r ≡ code (fault (division_tests low high ns)) → r ≡ 0 → all division ns ≡ true
+pub frame_divided : (low high : List Float) (ns : List ℕ) → fault (division_tests low high ns) ≡ none → all division ns ≡ true
 unfolding division_tests all
-frame_divided low high ns e z =
-    let p = unrefused (division_tests low high ns) (code-none (division_tests low high ns) (numbers low high ns) (sym z ∙ e)) in
+frame_divided low high ns e =
+    let p = unrefused (division_tests low high ns) e in
     divided ns (or_right (not (in_order low high)) (any (λ (d : ℕ). eqb d 0) ns) p.0) p.1.0
 
 after_first : (n : ℕ) (w : Measured) (t : Settings) → nothing_filed w ≡ false → fault (frame_tests n w t) ≡ fault (division_tests (low_corner w t) (high_corner w t) (counts n (index n w t).ndiv))
@@ -56,11 +52,11 @@ module _ {n : ℕ} {m : Mesh} {t : Settings} {sizes : Sizes} (s : Sized n m t si
   unfolding measure
   boxes-are = refl
 
-  nothing_is : (sizes.apart && eqb sizes.large ncell) ≡ nothing_filed (measure n m t)
+  nothing_is : (kept sizes.apart && eqb (count_in sizes.apart) ncell) ≡ nothing_filed (measure n m t)
   unfolding nothing_filed
   nothing_is = rw (s.apart, s.large, k, boxes-are, length-boxes n m)
 
-  pub frame_nothing : {A : Type 0} {b : Bool} (a : A) → b ≡ (sizes.apart && eqb sizes.large ncell) → b ≡ true → refused 23 ≡ answer (fault (frame_tests n (measure n m t) t)) a
+  pub frame_nothing : {A : Type 0} {b : Bool} (a : A) → b ≡ (kept sizes.apart && eqb (count_in sizes.apart) ncell) → b ≡ true → refused 23 ≡ answer (fault (frame_tests n (measure n m t) t)) a
   unfolding frame_tests fault answer
   frame_nothing a e f = rw (sym nothing_is ∙ sym e ∙ f)
 
@@ -101,13 +97,13 @@ module _ {n : ℕ} {m : Mesh} {t : Settings} {sizes : Sizes} (s : Sized n m t si
       tests_are : division_tests (coords n xmin) (coords n high) (counts n ndiv) ≡ division_tests (low_corner (measure n m t) t) (high_corner (measure n m t) t) (counts n (index n (measure n m t) t).ndiv)
       tests_are = rw (low-axes, high-axes, counts-are)
 
-      module _ {b : Bool} (e : b ≡ (sizes.apart && eqb sizes.large ncell)) (f : b ≡ false) {r : ℕ} (g : r ≡ code (fault (division_tests (coords n xmin) (coords n high) (counts n ndiv)))) where
+      module _ {b : Bool} (e : b ≡ (kept sizes.apart && eqb (count_in sizes.apart) ncell)) (f : b ≡ false) where
         past-nothing : fault (frame_tests n (measure n m t) t) ≡ fault (division_tests (coords n xmin) (coords n high) (counts n ndiv))
         past-nothing = after_first n (measure n m t) t (sym nothing_is ∙ sym e ∙ f) ∙ ap fault (sym tests_are)
 
-        pub frame_refused : {A : Type 0} (a : A) → (r ≡ 0 → ⊥) → refused r ≡ answer (fault (frame_tests n (measure n m t) t)) a
+        pub frame_refused : {A : Type 0} {r : ℕ} (a : A) → some r ≡ fault (division_tests (coords n xmin) (coords n high) (counts n ndiv)) → refused r ≡ answer (fault (frame_tests n (measure n m t) t)) a
         unfolding answer
-        frame_refused a z = ap (λ (o : Option ℕ). answer o a) (sym (past-nothing ∙ code-some (fault (division_tests (coords n xmin) (coords n high) (counts n ndiv))) r g z))
+        frame_refused a g = ap (λ (o : Option ℕ). answer o a) (g ∙ sym past-nothing)
 
         length-divisions : length (cell_divisions side (coords n xmin) (coords n high)) ≡ n
         unfolding cell_divisions
@@ -121,7 +117,7 @@ module _ {n : ℕ} {m : Mesh} {t : Settings} {sizes : Sizes} (s : Sized n m t si
             ∙ rw (side_is, low-axes, high-axes)
 
         index_is : {xmax : Position} → xmax ≡ position_of (covered_of side (coords n xmin) (counts n ndiv))
-            → record { ndim = n; ndiv = ndiv; side_length = side; xmin = xmin; xmax = xmax; used = 0; large = sizes.large } ≡ index n (measure n m t) t
+            → record { ndim = n; ndiv = ndiv; side_length = side; xmin = xmin; xmax = xmax; used = 0; large = count_in sizes.apart } ≡ index n (measure n m t) t
         unfolding index
         index_is x = λ i. record {
           ndim = n;
@@ -133,9 +129,8 @@ module _ {n : ℕ} {m : Mesh} {t : Settings} {sizes : Sizes} (s : Sized n m t si
           large = s.large i;
         }
 
-        pub frame_made : {xmax : Position} → xmax ≡ position_of (covered_of side (coords n xmin) (counts n ndiv)) → r ≡ 0
-            → success (record { ndim = n; ndiv = ndiv; side_length = side; xmin = xmin; xmax = xmax; used = 0; large = sizes.large }) ≡ answer (fault (frame_tests n (measure n m t) t)) (index n (measure n m t) t)
+        pub frame_made : {xmax : Position} → xmax ≡ position_of (covered_of side (coords n xmin) (counts n ndiv)) → {large : ℕ} → large ≡ count_in sizes.apart
+            → none ≡ fault (division_tests (coords n xmin) (coords n high) (counts n ndiv))
+            → success (record { ndim = n; ndiv = ndiv; side_length = side; xmin = xmin; xmax = xmax; used = 0; large = large }) ≡ answer (fault (frame_tests n (measure n m t) t)) (index n (measure n m t) t)
         unfolding answer
-        frame_made x z =
-            ap success (index_is x)
-            ∙ ap (λ (o : Option ℕ). answer o (index n (measure n m t) t)) (sym (past-nothing ∙ code-none (division_tests (coords n xmin) (coords n high) (counts n ndiv)) (numbers (coords n xmin) (coords n high) (counts n ndiv)) (sym z ∙ g)))
+        frame_made x e g = rw e (ap success (index_is x) ∙ ap (λ (o : Option ℕ). answer o (index n (measure n m t) t)) (g ∙ sym past-nothing))

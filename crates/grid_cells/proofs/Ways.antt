@@ -1,17 +1,18 @@
--- Ways through tests: what the tests of divisions say, refusals one after the other as numbers, and what an answer tells.
+-- Ways through tests: what the tests of divisions say, a test that fails before others, and what an answer and an option tell.
 -- Assumes nothing.
 use Prim.Native.Nat.{ℕ, ◌≤◌}
 use native.Mathlib.Omega.{arith}
-use mathlib.Core.Path.{◌≡◌, refl, sym, ap, ◌∙◌}
-use mathlib.Core.Bool.{true, false}
-use mathlib.Core.Option.{Option, none, some}
-use mathlib.Core.List.{List, [], ◌∷◌, ◌++◌}
+use mathlib.Core.Path.{◌≡◌, refl}
+use mathlib.Core.Bool.{Bool, true, false, cond}
+use mathlib.Core.Option as math
+use Rattle.std.specs.Prelude.{Option, Some, None, Ok, Err}
+use Rattle.std.specs.Option.{ok_or}
+use mathlib.Core.List.{List, [], ◌∷◌}
 use lib.Dec.{ltb, eqb}
 use borrow.Author.Tests.{eqb-false, ltb-false, le-leb}
 use Rattle.basics.proofs.Bools.{both, or_left, or_right}
 use Rattle.basics.specs.Lists.{all, any}
-use Rattle.basics.specs.Refusals.{Test, fault, code, refused, success, answer}
-use Rattle.basics.proofs.Refusals.{fault_stop, fault-right, code-some, code-none, Numbered}
+use Rattle.basics.specs.Refusals.{refused, success, answer}
 use Rattle.grid.specs.Divisions.{division}
 
 -- from 1 to 1,024: neither none nor many
@@ -27,23 +28,41 @@ divided (n ∷ ns) e f =
     positive : (n : ℕ) → (n ≡ 0 → ⊥) → 1 ≤ n
     positive n h = omega arith
 
--- ---- refusals one after the other: the first tests decide, or the rest do
-
-pub code_stop : (us ts : List Test) {a : ℕ} → a ≡ code (fault us) → (a ≡ 0 → ⊥) → a ≡ code (fault (us ++ ts))
-unfolding code
-code_stop us ts {a} e h = sym (ap code (fault_stop us ts a (code-some (fault us) a e h)))
-
-pub code-past : (us ts : List Test) → Numbered us → {a b : ℕ} → a ≡ code (fault us) → a ≡ 0 → b ≡ code (fault ts) → b ≡ code (fault (us ++ ts))
-code-past us ts n e z f = f ∙ sym (ap code (fault-right us ts (code-none us n (sym z ∙ e))))
+-- a test that fails by itself fails before others
+pub first_fails : (b : Bool) {n : ℕ} (k : ℕ) (rest : math.Option ℕ) → math.some n ≡ cond b (math.some k) math.none → math.some n ≡ cond b (math.some k) rest
+first_fails true k rest e = e
+first_fails false {n} k rest e = absurd (math.some-ne-none n e)
 
 -- ---- what an answer tells
 
-pub answered_by : {A : Type 0} (o : Option ℕ) (x a : A) → success x ≡ answer o a → (o ≡ none) × (x ≡ a)
+pub answered_by : {A : Type 0} (o : math.Option ℕ) (x a : A) → success x ≡ answer o a → (o ≡ math.none) × (x ≡ a)
 unfolding answer
-answered_by none x a e = (refl, cc)
-answered_by (some n) x a e = let z : ◌≡◌ {A = ℕ} 0 1 = cc in absurd (omega arith)
+answered_by math.none x a e = (refl, cc)
+answered_by (math.some n) x a e = absurd (never e)
+  where
+    never : success x ≡ refused n → ⊥
+    never f = cc
 
-pub refused_by : {A : Type 0} (o : Option ℕ) (r : ℕ) (a : A) → refused r ≡ answer o a → o ≡ some r
+pub refused_by : {A : Type 0} (o : math.Option ℕ) (r : ℕ) (a : A) → refused r ≡ answer o a → o ≡ math.some r
 unfolding answer
-refused_by none r a e = let z : ◌≡◌ {A = ℕ} 0 1 = cc in absurd (omega arith)
-refused_by (some n) r a e = cc
+refused_by math.none r a e = absurd (never e)
+  where
+    never : refused r ≡ success a → ⊥
+    never f = cc
+refused_by (math.some n) r a e = cc
+
+-- ---- what an option tells that was made a result
+
+pub none_by : {A E : Type 0} (o : Option A) (e d : E) → Err d ≡ ok_or o e → (o ≡ None) × (d ≡ e)
+none_by None e d h = (refl, cc)
+none_by (Some a) e d h = absurd (never h)
+  where
+    never : Err d ≡ Ok a → ⊥
+    never f = cc
+
+pub some_by : {A E : Type 0} (o : Option A) (e : E) (a : A) → Ok a ≡ ok_or o e → o ≡ Some a
+some_by None e a h = absurd (never h)
+  where
+    never : Ok a ≡ Err e → ⊥
+    never f = cc
+some_by (Some b) e a h = cc

@@ -1,9 +1,11 @@
 -- The index that a mesh and settings give, step by step as in `GridCells::new`, and what turns a build away.
 -- Assumes nothing.
-use Rattle.std.specs.Prelude.{ℕ, Bool, false, not, ◌&&◌, ◌||◌, List, [], ◌∷◌, ◌++◌, map, ltb, eqb, length, negsuc, Float}
-use Rattle.std.proofs.Math.Option.{Option, none, some}
+use Rattle.std.specs.Prelude.{ℕ, Bool, false, not, ◌&&◌, ◌||◌, List, [], ◌∷◌, ◌++◌, map, ltb, eqb, length, negsuc, Float, Option, Some, None, Result}
+use Rattle.std.proofs.Math.Option as math
 use Rattle.std.specs.Float.{fin, binary64}
 use Rattle.std.specs.Float.Ieee.{round, lt, le}
+use Rattle.basics.specs.declared.Refusal.{Refusal}
+use Rattle.basics.specs.Answers.{answered}
 use Rattle.basics.specs.Lists.{all, any, zip_with, over}
 use Rattle.basics.specs.Refusals.{Test, refuse, fault, Answer, refused, success}
 use Rattle.floats.specs.Rounded.{◌⊕◌, ◌⊖◌, ◌⊗◌, ◌⊘◌, truncate, zero_f, pow2}
@@ -11,8 +13,6 @@ use Rattle.floats.specs.Tests.{finite}
 use Rattle.floats.specs.Ceil.{ceil_of}
 use Rattle.geometry.specs.Position.{position_of, dimension, coordinate}
 use Rattle.grid.specs.Divisions.{counts, divisions_of}
-use Rattle.grid_search.specs.declared.GivenF64.{GivenF64}
-use Rattle.grid_search.specs.declared.GivenF64.TheVariants.{LeftOut, Given}
 use Rattle.grid_search.specs.Sheet.{tolerance_of, border_of, lowered, raised, covered_of, past_limits, in_order}
 use Rattle.mesh.specs.Mesh.{Mesh, Box, cell_count, mesh_too_long, broken_mesh, least, greatest}
 use Rattle.table.specs.Rows.{Slot}
@@ -21,21 +21,19 @@ use Rattle.cell_sizes.specs.Large.{Measured, measure, is_filed, large_of, nothin
 use Rattle.cell_rows.specs.declared.Containers.{Containers}
 use Rattle.cell_rows.specs.Filing.{file_cells, box_exceeds}
 use Rattle.grid_cells.specs.declared.GridCells.{GridCells}
-use Rattle.grid_cells.specs.declared.Built.{Built}
-use Rattle.grid_cells.specs.declared.Built.TheVariants.{Index, Refused}
 
 -- ---- settings: tolerance and border as the sheet's, the cutoff 0.75 and the percentage 0.2 where left out
 
-unfoldable pub cutoff_of : GivenF64 → Float
-cutoff_of LeftOut = fin false 3 (negsuc 1)
-cutoff_of (Given v) = v
+unfoldable pub cutoff_of : Option Float → Float
+cutoff_of None = fin false 3 (negsuc 1)
+cutoff_of (Some v) = v
 
-unfoldable pub percentage_of : GivenF64 → Float
+unfoldable pub percentage_of : Option Float → Float
 unfolding round
-percentage_of LeftOut = round binary64 false 1 5
-percentage_of (Given v) = v
+percentage_of None = round binary64 false 1 5
+percentage_of (Some v) = v
 
-unfoldable pub settings_of : GivenF64 → GivenF64 → GivenF64 → GivenF64 → Settings
+unfoldable pub settings_of : Option Float → Option Float → Option Float → Option Float → Settings
 unfolding tolerance_of border_of cutoff_of percentage_of
 settings_of tolerance border cutoff percentage = record {
   tolerance = tolerance_of tolerance;
@@ -186,9 +184,9 @@ pub record Build : Type 0 where
   pub answer : Answer GridCells
   pub lists : IndexLists
 
-unfoldable pub settle_build : Option ℕ → FiledIndex → IndexLists → Build
+unfoldable pub settle_build : math.Option ℕ → FiledIndex → IndexLists → Build
 unfolding over
-settle_build none k l = record {
+settle_build math.none k l = record {
   answer = success k.grid;
   lists = record {
     keys = over (map (λ (p : Slot). p.key) k.rows) l.keys;
@@ -196,16 +194,18 @@ settle_build none k l = record {
     large = over k.large l.large;
   };
 }
-settle_build (some r) k l = record { answer = refused r; lists = l }
+settle_build (math.some r) k l = record { answer = refused r; lists = l }
 
 unfoldable pub build : ℕ → Mesh → Settings → IndexLists → Build
 unfolding settle_build fault build_tests make measure
 build n m t l = settle_build (fault (build_tests n m t l)) (make n (measure n m t) t) l
 
-abbrev pub built : Built → Answer GridCells
-built (Index g) = success g
-built (Refused n) = refused n
+abbrev pub built : Result GridCells Refusal → Answer GridCells
+built = answered (λ (g : GridCells). g)
 
 -- an answer, and the lists at exit
-abbrev pub leaves_lists : Built → List ℕ → List ℕ → List ℕ → Build
-leaves_lists r keys cells large = record { answer = built r; lists = index_lists keys cells large }
+abbrev pub leaves : Result GridCells Refusal → IndexLists → Build
+leaves r l = record { answer = built r; lists = l }
+
+abbrev pub leaves_lists : Result GridCells Refusal → List ℕ → List ℕ → List ℕ → Build
+leaves_lists r keys cells large = leaves r (index_lists keys cells large)

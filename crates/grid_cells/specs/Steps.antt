@@ -1,14 +1,16 @@
 -- The steps of a build: what turns it away before the cells are measured, and what its last step gives. Public contracts cite none of this.
 -- Assumes nothing.
-use Rattle.std.specs.Prelude.{ℕ, ◌≤◌, ◌<◌, ◌≡◌, Bool, List, ◌++◌, length, Float}
+use Rattle.std.specs.Prelude.{ℕ, ◌≤◌, ◌<◌, ◌≡◌, Bool, true, List, ◌++◌, length, Float}
+use Rattle.basics.specs.Lists.{all}
 use Rattle.basics.specs.Refusals.{Test, fault}
+use Rattle.grid.specs.Divisions.{counts, division}
 use Rattle.mesh.specs.Mesh.{Mesh, Box, cell_count, Whole}
 use Rattle.cell_sizes.specs.declared.Settings.{Settings}
 use Rattle.cell_sizes.specs.declared.Sizes.{Sizes}
-use Rattle.cell_sizes.specs.Large.{boxes, large_of}
-use Rattle.cell_rows.specs.Steps.{Fileable}
+use Rattle.cell_sizes.specs.Large.{boxes}
+use Rattle.cell_sizes.specs.Steps.{lists}
 use Rattle.grid_cells.specs.declared.GridCells.{GridCells}
-use Rattle.grid_cells.specs.Build.{containers_of, IndexLists, Build, file_index, size_tests, given_tests, row_tests, settle_build}
+use Rattle.grid_cells.specs.Build.{IndexLists, Build, file_index, size_tests, given_tests, row_tests, settle_build}
 
 -- 1, 24, 13, 19, 3, 8, 9, 20, 21, 18
 unfoldable pub early_tests : ℕ → Mesh → Settings → IndexLists → List Test
@@ -22,10 +24,12 @@ pub record Measurable (n : ℕ) (m : Mesh) (l : IndexLists) : Type 0 where
   pub lengths : length l.cells ≡ length l.keys
 
 -- what the last step asks: an index whose containers have keys, and the mesh that was measured
-pub record Finishable (g : GridCells) (sizes : Sizes) (m : Mesh) (ncell : ℕ) (l : IndexLists) : Type 0 where
-  pub fileable : Fileable (containers_of g) m ncell
+pub record Finishable (g : GridCells) (sizes : Sizes) (n : ℕ) (m : Mesh) (l : IndexLists) : Type 0 where
+  pub axes : n ≡ g.ndim
+  pub divisions : all division (counts g.ndim g.ndiv) ≡ true
+  pub few : cell_count g.ndim m ≤ 65536
   pub lengths : length l.cells ≡ length l.keys
-  pub large : sizes.large ≡ length (large_of sizes.apart sizes.limit (boxes g.ndim m))
+  pub large : g.large ≡ length (lists sizes (boxes g.ndim m))
 
 -- the index of these boxes, or the refusal 17 or 12
 unfoldable pub finish_of : GridCells → Bool → Float → List Box → IndexLists → Build

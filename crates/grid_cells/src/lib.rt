@@ -3,20 +3,24 @@
 #![tactic(auto)]
 
 ghost use Rattle.std.specs.Prelude.{◌≡◌};
-ghost use Rattle.grid_search.specs.Sheet.{tolerance_of, border_of};
-ghost use Rattle.mesh.specs.Mesh.{mesh_of};
+ghost use Rattle.mesh.specs.Mesh.{mesh_of, seen};
 ghost use Rattle.cell_sizes.specs.Large.{boxes};
-ghost use Rattle.grid_cells.specs.Build.{cutoff_of, percentage_of, settings_of, containers_of, with_rows, index_lists, build, leaves_lists};
+ghost use Rattle.cell_sizes.specs.Steps.{kept, limit_in};
+ghost use Rattle.grid_cells.specs.Build.{settings_of, containers_of, index_lists, build, leaves, leaves_lists};
+ghost use Rattle.grid_cells.specs.Lent.{lent_mut, SameLists};
 ghost use Rattle.grid_cells.specs.Steps.{Finishable, finish_of};
 
 mod frame;
+mod lists;
 pub mod refusals;
 
-use cell_rows::{Containers, Keys};
+use basics::Refusal;
+use cell_rows::{Containers, Filing};
 use cell_sizes::{Settings, Sizes};
 use geometry::Position;
 use grid::Divisions;
-use grid_search::GivenF64;
+pub use lists::{IndexLists, IndexListsMut};
+use mesh::{Mesh, WholeMesh};
 
 // The number of a cell.
 #[derive(Clone, Copy)]
@@ -36,104 +40,21 @@ pub struct GridCells {
     pub large: usize,
 }
 
-// What `GridCells::new` answers.
-#[derive(Clone, Copy)]
-pub enum Built {
-    Index(GridCells),
-    Refused(u64),
-}
-
-// The tolerance in force.
-fn tolerance_in_force(tolerance: GivenF64) -> f64
-    ensures { result ≡ tolerance_of tolerance }
+// The settings in force.
+fn in_force(
+    tolerance: Option<f64>,
+    border_tol: Option<f64>,
+    large_cutoff: Option<f64>,
+    large_pct: Option<f64>,
+) -> Settings
+    ensures { result ≡ settings_of tolerance border_tol large_cutoff large_pct }
 {
-    match tolerance {
-        GivenF64::Given(v) => v,
-        GivenF64::LeftOut => GridCells::TOLERANCE,
+    Settings {
+        tolerance: tolerance.unwrap_or(GridCells::TOLERANCE),
+        border_tol: border_tol.unwrap_or(GridCells::BORDER_TOL),
+        large_cutoff: large_cutoff.unwrap_or(GridCells::LARGE_CUTOFF),
+        large_pct: large_pct.unwrap_or(GridCells::LARGE_PCT),
     }
-}
-
-// The border in force.
-fn border_in_force(border_tol: GivenF64) -> f64
-    ensures { result ≡ border_of border_tol }
-{
-    match border_tol {
-        GivenF64::Given(v) => v,
-        GivenF64::LeftOut => GridCells::BORDER_TOL,
-    }
-}
-
-// The cutoff in force.
-fn cutoff_in_force(large_cutoff: GivenF64) -> f64
-    ensures { result ≡ cutoff_of large_cutoff }
-{
-    match large_cutoff {
-        GivenF64::Given(v) => v,
-        GivenF64::LeftOut => GridCells::LARGE_CUTOFF,
-    }
-}
-
-// The percentage in force.
-fn pct_in_force(large_pct: GivenF64) -> f64
-    ensures { result ≡ percentage_of large_pct }
-{
-    match large_pct {
-        GivenF64::Given(v) => v,
-        GivenF64::LeftOut => GridCells::LARGE_PCT,
-    }
-}
-
-// The index with its rows and large cells in the lent lists, or the refusal 17 or 12.
-fn finish(
-    grid: GridCells,
-    sizes: Sizes,
-    coords: &[f64],
-    corners: &[u32],
-    ncell: usize,
-    keys: &mut [u64],
-    cells: &mut [u64],
-    large: &mut [u64],
-) -> Built
-    requires { Finishable grid sizes (mesh_of coords.now corners.now) ncell (index_lists keys.old cells.old large.old) }
-    ensures { leaves_lists result keys.new cells.new large.new
-        ≡ finish_of grid sizes.apart sizes.limit (boxes grid.ndim (mesh_of coords.now corners.now)) (index_lists keys.old cells.old large.old) }
-{
-    let at = grid.containers();
-    let Keys::Count(used) = cell_rows::count_rows(at, sizes, coords, corners, ncell) else {
-        return Built::Refused(17);
-    };
-    if (used > keys.len()) | (sizes.large > large.len()) {
-        return Built::Refused(12);
-    }
-    cell_rows::file_cells(at, sizes, coords, corners, ncell, keys, cells);
-    cell_rows::write_large(grid.ndim, sizes, coords, corners, ncell, large);
-    Built::Index(grid.with_rows(used))
-}
-
-// The index of a mesh by settings in force.
-fn build_by(
-    ndim: usize,
-    coords: &[f64],
-    corners: &[u32],
-    settings: Settings,
-    keys: &mut [u64],
-    cells: &mut [u64],
-    large: &mut [u64],
-) -> Built
-    ensures { leaves_lists result keys.new cells.new large.new
-        ≡ build ndim (mesh_of coords.now corners.now) settings (index_lists keys.old cells.old large.old) }
-{
-    let refused = refusals::refused(ndim, coords, corners, settings, keys, cells, large);
-    if refused != 0 {
-        return Built::Refused(refused);
-    }
-    let ncell = mesh::cell_count(ndim, corners);
-    let sizes = cell_sizes::measure(ndim, coords, corners, ncell, settings);
-    let framed = frame::frame(ndim, ncell, sizes, settings);
-    let Built::Index(grid) = framed else {
-        return framed;
-    };
-    finish(grid, sizes, coords, corners, ncell, keys, cells, large)
 }
 
 impl GridCells {
@@ -150,47 +71,74 @@ impl GridCells {
     pub fn containers(self) -> Containers
         ensures { result ≡ containers_of self }
     {
-        let ndiv = self.ndiv;
-        let xmin = self.xmin;
         Containers {
             ndim: self.ndim,
-            ndiv,
+            ndiv: self.ndiv,
             side_length: self.side_length,
-            xmin,
+            xmin: self.xmin,
         }
     }
 
-    // With so many rows in use.
-    fn with_rows(mut self, used: usize) -> GridCells
-        ensures { result ≡ with_rows self used }
+    // The same index with its rows and large cells in the lent lists, or the refusal 17 or 12.
+    fn filed(
+        self,
+        sizes: Sizes,
+        mesh: WholeMesh,
+        lists: &mut IndexListsMut,
+    ) -> Result<GridCells, Refusal>
+        requires { Finishable self sizes mesh.mesh.ndim (seen mesh.mesh) (lent_mut lists.old) }
+        ensures files { leaves result (lent_mut lists.new)
+            ≡ finish_of self (kept sizes.apart) (limit_in sizes.apart) (boxes self.ndim (seen mesh.entry.mesh)) (lent_mut lists.old) }
+        ensures same_lists { SameLists lists.old lists.new }
     {
-        self.used = used;
-        self
+        let filing = Filing {
+            grid: self.containers(),
+            sizes,
+            mesh,
+        };
+        let used = filing.count_rows().ok_or(Refusal::Ratio)?;
+        if (used > lists.keys.len()) | (self.large > lists.large.len()) {
+            return Err(Refusal::Full);
+        }
+        filing.file_cells(lists.keys, lists.cells);
+        cell_rows::write_large(mesh, sizes, lists.large);
+        Ok(GridCells { used, ..self })
     }
 
-    // The index of a mesh. Rows go to the front of `keys` and `cells`, in strict order of key and cell, and large cells,
-    // ascending, to the front of `large`. A refusal leaves the three lists as they are.
+    // The index of a mesh by settings in force. Rows go to the front of `keys` and `cells`, in strict order of key and cell,
+    // and large cells, ascending, to the front of `large`. A refusal leaves the three lists as they are.
+    pub fn build(
+        mesh: Mesh,
+        settings: Settings,
+        lists: &mut IndexListsMut,
+    ) -> Result<GridCells, Refusal>
+        ensures builds { leaves result (lent_mut lists.new) ≡ build mesh.entry.ndim (seen mesh.entry) settings (lent_mut lists.old) }
+        ensures same_lists { SameLists lists.old lists.new }
+    {
+        let mesh = refusals::judged(mesh, settings, lists.as_lists())?;
+        let sizes = cell_sizes::measure(mesh, settings);
+        let grid = frame::frame(mesh, sizes, settings)?;
+        grid.filed(sizes, mesh, lists)
+    }
+
+    // The index of a mesh in plain slices, by settings as given: `build`, with its lists.
     pub fn new(
         ndim: usize,
         coords: &[f64],
         corners: &[u32],
-        tolerance: GivenF64,
-        border_tol: GivenF64,
-        large_cutoff: GivenF64,
-        large_pct: GivenF64,
+        tolerance: Option<f64>,
+        border_tol: Option<f64>,
+        large_cutoff: Option<f64>,
+        large_pct: Option<f64>,
         keys: &mut [u64],
         cells: &mut [u64],
         large: &mut [u64],
-    ) -> Built
+    ) -> Result<GridCells, Refusal>
         ensures { leaves_lists result keys.new cells.new large.new
             ≡ build ndim (mesh_of coords.now corners.now) (settings_of tolerance border_tol large_cutoff large_pct) (index_lists keys.old cells.old large.old) }
     {
-        let settings = Settings {
-            tolerance: tolerance_in_force(tolerance),
-            border_tol: border_in_force(border_tol),
-            large_cutoff: cutoff_in_force(large_cutoff),
-            large_pct: pct_in_force(large_pct),
-        };
-        build_by(ndim, coords, corners, settings, keys, cells, large)
+        let settings = in_force(tolerance, border_tol, large_cutoff, large_pct);
+        let mut lists = IndexListsMut { keys, cells, large };
+        Self::build(Mesh::new(ndim, coords, corners), settings, &mut lists)
     }
 }

@@ -1,40 +1,41 @@
-// What turns a build away before anything is measured. Each function gives document 01's number, or 0.
-ghost use Rattle.std.specs.Prelude.{◌≡◌, true, ◌&&◌, [], ◌∷◌};
+// What turns a build away before anything is measured.
+ghost use Rattle.std.specs.Prelude.{◌≡◌, true, ◌&&◌, [], ◌∷◌, IfOk};
+ghost use Rattle.basics.specs.Answers.{fault_in};
 ghost use Rattle.basics.specs.Lists.{all};
-ghost use Rattle.basics.specs.Refusals.{fault, code};
+ghost use Rattle.basics.specs.Refusals.{fault};
 ghost use Rattle.floats.specs.Tests.{finite};
 ghost use Rattle.geometry.specs.Position.{coordinate, dimension};
-ghost use Rattle.mesh.specs.Mesh.{mesh_of};
-ghost use Rattle.grid_cells.specs.Build.{index_lists, lists_too_long, size_tests, not_part, settings_ok, given_tests};
+ghost use Rattle.mesh.specs.Mesh.{seen};
+ghost use Rattle.grid_cells.specs.Build.{lists_too_long, size_tests, not_part, settings_ok, given_tests};
+ghost use Rattle.grid_cells.specs.Lent.{lent};
 ghost use Rattle.grid_cells.specs.Steps.{early_tests};
 
+use crate::lists::IndexLists;
+use basics::Refusal;
 use cell_sizes::Settings;
+use geometry::Dimension;
+use mesh::{Mesh, WholeMesh};
 
-// Whether a list of rows or of large cells has more than 65,536 entries.
-fn is_too_long(keys: &[u64], cells: &[u64], large: &[u64]) -> bool
-    ensures { result ≡ lists_too_long (index_lists keys.now cells.now large.now) }
-{
-    (keys.len() > 65536) | ((cells.len() > 65536) | (large.len() > 65536))
+impl IndexLists<'_> {
+    // Whether a list of rows or of large cells has more than 65,536 entries.
+    #[tactic(auto, unfolding(crate::specs::Build::lists_too_long))]
+    fn is_too_long(self) -> bool
+        ensures { result ≡ lists_too_long (lent self.entry) }
+    {
+        (self.keys.len() > 65536) | ((self.cells.len() > 65536) | (self.large.len() > 65536))
+    }
 }
 
-// 1 or 24: the dimension, and the lists by their lengths.
-pub fn sizes_refused(
-    ndim: usize,
-    coords: &[f64],
-    corners: &[u32],
-    keys: &[u64],
-    cells: &[u64],
-    large: &[u64],
-) -> u64
-    ensures { result ≡ code (fault (size_tests ndim (mesh_of coords.now corners.now) (index_lists keys.now cells.now large.now))) }
+// The dimension, and the lists by their lengths: 1 or 24.
+#[tactic(auto, unfolding(basics::specs::Refusals::fault, crate::specs::Build::size_tests))]
+pub fn sizes_fault(mesh: Mesh, lists: IndexLists) -> Result<(), Refusal>
+    ensures { fault_in result ≡ fault (size_tests mesh.entry.ndim (seen mesh.entry) (lent lists.entry)) }
 {
-    if !geometry::is_dimension(ndim) {
-        return 1;
+    Dimension::try_from(mesh.ndim)?;
+    if mesh.is_too_long() | lists.is_too_long() {
+        return Err(Refusal::TooLong);
     }
-    if mesh::is_too_long(ndim, coords, corners) | is_too_long(keys, cells, large) {
-        return 24;
-    }
-    0
+    Ok(())
 }
 
 // Whether a cutoff or a percentage lies outside 0 to 1.
@@ -45,15 +46,17 @@ fn is_no_part(v: f64) -> bool
 }
 
 // Whether every setting is finite.
+#[tactic(auto, unfolding(basics::specs::Lists::all))]
 fn are_finite(t: Settings) -> bool
     ensures { result ≡ all finite (t.tolerance ∷ t.border_tol ∷ t.large_cutoff ∷ t.large_pct ∷ []) }
 {
-    floats::is_finite(t.tolerance)
-        & (floats::is_finite(t.border_tol)
-            & (floats::is_finite(t.large_cutoff) & floats::is_finite(t.large_pct)))
+    [t.tolerance, t.border_tol, t.large_cutoff, t.large_pct]
+        .iter()
+        .all(|v| floats::is_finite(*v))
 }
 
 // Whether 3 is not the case.
+#[tactic(auto, unfolding(crate::specs::Build::settings_ok))]
 fn are_values_ok(coords: &[f64], t: Settings) -> bool
     ensures { result ≡ (all coordinate coords.now && settings_ok t) }
 {
@@ -61,61 +64,52 @@ fn are_values_ok(coords: &[f64], t: Settings) -> bool
         & (are_finite(t) & !grid_search::past_limits(t.tolerance, t.border_tol))
 }
 
-// 13, 19, 3, 8, 9, 20, 21 or 18: the rows' lists by their lengths, the mesh and the settings.
-fn given_refused(
-    ndim: usize,
-    coords: &[f64],
-    corners: &[u32],
+// The mesh, known to be whole, or what turns it away: 13, 19, 3, 8, 9, 20, 21 or 18, for the rows' lists by their lengths,
+// the mesh and the settings.
+#[tactic(auto, unfolding(basics::specs::Refusals::fault, crate::specs::Build::given_tests))]
+fn given<'a, 'b>(
+    mesh: Mesh<'a, 'b>,
     t: Settings,
-    keys: &[u64],
-    cells: &[u64],
-    large: &[u64],
-) -> u64
-    requires { dimension ndim ≡ true }
-    ensures { result ≡ code (fault (given_tests ndim (mesh_of coords.now corners.now) t (index_lists keys.now cells.now large.now))) }
+    lists: IndexLists,
+) -> Result<WholeMesh<'a, 'b>, Refusal>
+    requires { dimension mesh.ndim ≡ true }
+    ensures judged { fault_in result ≡ fault (given_tests mesh.entry.ndim (seen mesh.entry) t (lent lists.entry)) }
+    ensures same { IfOk result (λ w. w.mesh ≡ mesh.entry) }
 {
-    if cells.len() != keys.len() {
-        return 13;
+    if lists.cells.len() != lists.keys.len() {
+        return Err(Refusal::Damaged);
     }
-    if mesh::is_broken(ndim, coords, corners) {
-        return 19;
-    }
-    if !are_values_ok(coords, t) {
-        return 3;
+    let whole = mesh.whole()?;
+    if !are_values_ok(mesh.coords, t) {
+        return Err(Refusal::Limit);
     }
     if t.tolerance <= 0.0 {
-        return 8;
+        return Err(Refusal::Tolerance);
     }
     if t.border_tol < 0.0 {
-        return 9;
+        return Err(Refusal::Border);
     }
     if is_no_part(t.large_cutoff) {
-        return 20;
+        return Err(Refusal::Cutoff);
     }
     if is_no_part(t.large_pct) {
-        return 21;
+        return Err(Refusal::Percentage);
     }
-    if mesh::cell_count(ndim, corners) == 0 {
-        return 18;
+    if whole.cell_count() == 0 {
+        return Err(Refusal::NoCells);
     }
-    0
+    Ok(whole)
 }
 
-// 1, 24, and those.
-pub fn refused(
-    ndim: usize,
-    coords: &[f64],
-    corners: &[u32],
+// The mesh, known to be whole, or what turns it away: 1, 24, or those.
+pub fn judged<'a, 'b>(
+    mesh: Mesh<'a, 'b>,
     settings: Settings,
-    keys: &[u64],
-    cells: &[u64],
-    large: &[u64],
-) -> u64
-    ensures { result ≡ code (fault (early_tests ndim (mesh_of coords.now corners.now) settings (index_lists keys.now cells.now large.now))) }
+    lists: IndexLists,
+) -> Result<WholeMesh<'a, 'b>, Refusal>
+    ensures judged { fault_in result ≡ fault (early_tests mesh.entry.ndim (seen mesh.entry) settings (lent lists.entry)) }
+    ensures same { IfOk result (λ w. w.mesh ≡ mesh.entry) }
 {
-    let sizes = sizes_refused(ndim, coords, corners, keys, cells, large);
-    if sizes != 0 {
-        return sizes;
-    }
-    given_refused(ndim, coords, corners, settings, keys, cells, large)
+    sizes_fault(mesh, lists)?;
+    given(mesh, settings, lists)
 }

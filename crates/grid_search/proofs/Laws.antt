@@ -10,16 +10,15 @@ use lib.Ieee.{Float, lt, le}
 use borrow.Author.Tests.{leb-true, le-leb}
 use Rattle.basics.proofs.Bools.{by_test, both, and_left, and_right, and_both}
 use Rattle.basics.specs.Lists.{all}
-use Rattle.basics.specs.Refusals.{refused, success}
-use Rattle.floats.specs.Rounded.{◌⊖◌, ◌⊗◌, zero_f, pow2}
+use Rattle.basics.specs.Refusals.{refused}
+use Rattle.floats.specs.Rounded.{◌⊖◌, zero_f}
 use Rattle.floats.proofs.Upto.{unsigned, sub_unsigned}
 use Rattle.geometry.specs.Position.{dimension}
 use Rattle.geometry.specs.Distances.{from}
 use Rattle.grid.specs.Divisions.{division, num_divisions}
 use Rattle.grid.proofs.Shares.{up_to_number, divisions_range}
-use Rattle.grid_search.specs.declared.GivenU64.{GivenU64}
-use Rattle.grid_search.specs.declared.GivenF64.{GivenF64}
-use Rattle.grid_search.specs.Sheet.{number_of, tolerance_of, border_of, lowered, raised, in_order, out_of_limits, sheet_from, new_sheet}
+use Rattle.std.specs.Prelude.{Option}
+use Rattle.grid_search.specs.Sheet.{number_of, tolerance_of, border_of, lowered, raised, in_order, out_of_limits, new_sheet}
 
 -- ---- divisions
 pub lengths_unsigned : (lo hi : List Float) → in_order lo hi ≡ true → all unsigned (from lo hi) ≡ true
@@ -48,7 +47,7 @@ unfolding raised
 raised-length border l = by_test (lt zero_f border) (λ e. rw e (length-map l _)) (λ e. rw e)
 
 -- ---- the ways that the tests can go, in their order
-module _ (lo hi : List Float) (number : GivenU64) (tolerance border : GivenF64) where
+module _ (lo hi : List Float) (number : Option ℕ) (tolerance border : Option Float) where
   pub refused_1 : dimension (length lo) ≡ false → refused 1 ≡ new_sheet lo hi number tolerance border
   unfolding new_sheet
   refused_1 h = rw (h)
@@ -58,47 +57,16 @@ module _ (lo hi : List Float) (number : GivenU64) (tolerance border : GivenF64) 
     unfolding new_sheet
     refused_2 h = rw (d, h)
 
-    module _ (l : eqb (length hi) (length lo) ≡ true) where
-      pub refused_3 : out_of_limits lo hi (tolerance_of tolerance) (border_of border) ≡ true → refused 3 ≡ new_sheet lo hi number tolerance border
-      unfolding new_sheet
-      refused_3 h = rw (d, l, h)
-
-      module _ (h3 : out_of_limits lo hi (tolerance_of tolerance) (border_of border) ≡ false) where
-        pub refused_4 : eqb (number_of number) 0 ≡ true → refused 4 ≡ new_sheet lo hi number tolerance border
-        unfolding new_sheet
-        refused_4 h = rw (d, l, h3, h)
-
-        module _ (h4 : eqb (number_of number) 0 ≡ false) where
-          pub refused_5 : eqb (number_of number) 1 ≡ true → refused 5 ≡ new_sheet lo hi number tolerance border
-          unfolding new_sheet
-          refused_5 h = rw (d, l, h3, h4, h)
-
-          module _ (h5 : eqb (number_of number) 1 ≡ false) where
-            pub refused_6 : ltb 1024 (number_of number) ≡ true → refused 6 ≡ new_sheet lo hi number tolerance border
-            unfolding new_sheet
-            refused_6 h = rw (d, l, h3, h4, h5, h)
-
-            module _ (h6 : ltb 1024 (number_of number) ≡ false) where
-              pub refused_7 : in_order lo hi ≡ false → refused 7 ≡ new_sheet lo hi number tolerance border
-              unfolding new_sheet
-              refused_7 h = rw (d, l, h3, h4, h5, h6, h)
-
-              module _ (h7 : in_order lo hi ≡ true) where
-                pub refused_8 : le (tolerance_of tolerance) zero_f ≡ true → refused 8 ≡ new_sheet lo hi number tolerance border
-                unfolding new_sheet
-                refused_8 h = rw (d, l, h3, h4, h5, h6, h7, h)
-
-                module _ (h8 : le (tolerance_of tolerance) zero_f ≡ false) where
-                  pub refused_9 : lt (border_of border) zero_f ≡ true → refused 9 ≡ new_sheet lo hi number tolerance border
-                  unfolding new_sheet
-                  refused_9 h = rw (d, l, h3, h4, h5, h6, h7, h8, h)
-
-                  module _ (h9 : lt (border_of border) zero_f ≡ false) where
-                    pub refused_10 : le (sheet_from lo hi number tolerance border).side_length (pow2 1 ⊗ tolerance_of tolerance) ≡ true → refused 10 ≡ new_sheet lo hi number tolerance border
-                    unfolding new_sheet
-                    refused_10 h = rw (d, l, h3, h4, h5, h6, h7, h8, h9, h)
-
-                    module _ (h10 : le (sheet_from lo hi number tolerance border).side_length (pow2 1 ⊗ tolerance_of tolerance) ≡ false) where
-                      pub all_passed : success (sheet_from lo hi number tolerance border) ≡ new_sheet lo hi number tolerance border
-                      unfolding new_sheet
-                      all_passed = rw (d, l, h3, h4, h5, h6, h7, h8, h9, h10)
+-- 8 is what turns settings away that pass the tests before it
+pub refused_8 : (lo hi : List Float) (number : Option ℕ) (tolerance border : Option Float)
+    → dimension (length lo) ≡ true
+    → eqb (length hi) (length lo) ≡ true
+    → out_of_limits lo hi (tolerance_of tolerance) (border_of border) ≡ false
+    → eqb (number_of number) 0 ≡ false
+    → eqb (number_of number) 1 ≡ false
+    → ltb 1024 (number_of number) ≡ false
+    → in_order lo hi ≡ true
+    → le (tolerance_of tolerance) zero_f ≡ true
+    → refused 8 ≡ new_sheet lo hi number tolerance border
+unfolding new_sheet
+refused_8 lo hi number tolerance border d l h3 h4 h5 h6 h7 h = rw (d, l, h3, h4, h5, h6, h7, h)

@@ -1,4 +1,5 @@
 -- Laws of the sheet, for the proofs here and in the layers above.
+pub mod InForce
 pub mod Laws
 pub mod Sizes
 pub mod Settings

@@ -12,8 +12,7 @@ use Rattle.geometry.proofs.Axes.{coords-length, coords_of, entries_of}
 use Rattle.grid.specs.declared.Divisions.{Divisions}
 use Rattle.grid.specs.Divisions.{counts, divisions_of, division, num_divisions}
 use Rattle.grid.proofs.Shares.{divisions-length}
-use Rattle.grid_search.specs.declared.GivenU64.{GivenU64}
-use Rattle.grid_search.specs.declared.GivenF64.{GivenF64}
+use Rattle.std.specs.Prelude.{Option}
 use Rattle.grid_search.specs.declared.GridSearch.{GridSearch}
 use Rattle.grid_search.specs.Sheet.{number_of, tolerance_of, border_of, lowered, raised, side_of, covered_of, diagonal, in_order, sheet_from}
 use Rattle.grid_search.proofs.Laws.{divisions-good, lowered-length, raised-length}
@@ -36,7 +35,7 @@ module _ (n : ℕ) (low high : Position) (d : dimension n ≡ true) where
   raised-are : (border : Float) (xmax : Position) → xmax ≡ position_of (raised border (coords n high)) → coords n xmax ≡ raised border (coords n high)
   raised-are border xmax e = coords_of n (raised border (coords n high)) xmax d (raised-length border (coords n high) ∙ coords-length n high d) e
 
-  pub built-is : (number : GivenU64) (tolerance border : GivenF64) (num : ℕ) (bor tol : Float) (lo hi xmin wide xmax : Position) (ndiv : Divisions) (side r : Float)
+  pub built-is : (number : Option ℕ) (tolerance border : Option Float) (num : ℕ) (bor tol : Float) (lo hi xmin wide xmax : Position) (ndiv : Divisions) (side r : Float)
       → num ≡ number_of number → bor ≡ border_of border → tol ≡ tolerance_of tolerance → lo ≡ position_of (coords n low) → hi ≡ position_of (coords n high)
       → ndiv ≡ divisions_of (num_divisions num (coords n low) (coords n high)) → xmin ≡ position_of (lowered bor (coords n low)) → wide ≡ position_of (raised bor (coords n high))
       → side ≡ side_of (coords n xmin) (coords n wide) (counts n ndiv) → xmax ≡ position_of (covered_of side (coords n xmin) (counts n ndiv)) → r ≡ diagonal n

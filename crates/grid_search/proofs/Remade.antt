@@ -24,8 +24,7 @@ use Rattle.geometry.specs.Position.{coords, position_of}
 use Rattle.geometry.proofs.Axes.{coords_of}
 use Rattle.grid.specs.declared.Divisions.{Divisions}
 use Rattle.grid.specs.Divisions.{num_divisions}
-use Rattle.grid_search.specs.declared.GivenU64.{GivenU64}
-use Rattle.grid_search.specs.declared.GivenF64.{GivenF64}
+use Rattle.std.specs.Prelude.{Option as Given}
 use Rattle.grid_search.specs.declared.GridSearch.{GridSearch}
 use Rattle.grid_search.specs.Sheet.{number_of, tolerance_of, border_of, sheet_from, sheet_tests, new_sheet, same_position, same_divisions, same_sheet, sheet_ok, lowered, raised, largest, side_of, covered_of, diagonal}
 use Rattle.grid_search.proofs.Sizes.{sized_finite, coordinates_sized, finite_number}
@@ -170,7 +169,7 @@ unfolding answer
 success-none none a b e = (refl, cc)
 success-none (some n) a b e = absurd (let z : ◌≡◌ {A = ℕ} 0 1 = cc in omega arith)
 
-module _ (lo hi : List Float) (number : GivenU64) (tolerance border : GivenF64) where
+module _ (lo hi : List Float) (number : Given ℕ) (tolerance border : Given Float) where
   build-same : fault (sheet_tests lo hi number tolerance border) ≡ none → same_sheet (sheet_from lo hi number tolerance border) (sheet_from lo hi number tolerance border) ≡ true
   unfolding same_sheet sheet_from
   build-same e =

@@ -19,8 +19,7 @@ use Rattle.floats.proofs.Upto.{Upto, upto-finite, between-upto}
 use Rattle.geometry.specs.Position.{dimension}
 use Rattle.grid.specs.Divisions.{division, num_divisions}
 use Rattle.grid.proofs.Shares.{divisions-length}
-use Rattle.grid_search.specs.declared.GivenU64.{GivenU64}
-use Rattle.grid_search.specs.declared.GivenF64.{GivenF64}
+use Rattle.std.specs.Prelude.{Option}
 use Rattle.grid_search.specs.Sheet.{number_of, tolerance_of, border_of, out_of_limits, in_order, sheet_from, sheet_tests, lowered, raised, side_of, covered_of, diagonal}
 use Rattle.grid_search.proofs.Laws.{divisions-good, lowered-length}
 use Rattle.grid_search.proofs.Sizes.{AllUpto, coordinates_sized, lowered_sized, raised_sized, side_sized, covered_sized, diagonal_sized, near_sized, radius_sized, Limited, limited, above_zero, side_above}
@@ -37,7 +36,7 @@ pub record TestsPassed (lo hi : List Float) (number : ℕ) (tolerance border sid
   pub bordered : lt border zero_f ≡ false
   pub wide : le side (pow2 1 ⊗ tolerance) ≡ false
 
-pub tests_passed : (lo hi : List Float) (number : GivenU64) (tolerance border : GivenF64) → fault (sheet_tests lo hi number tolerance border) ≡ none
+pub tests_passed : (lo hi : List Float) (number : Option ℕ) (tolerance border : Option Float) → fault (sheet_tests lo hi number tolerance border) ≡ none
     → TestsPassed lo hi (number_of number) (tolerance_of tolerance) (border_of border) (sheet_from lo hi number tolerance border).side_length
 unfolding sheet_tests
 tests_passed lo hi number tolerance border e = go (unrefused (sheet_tests lo hi number tolerance border) e)
@@ -71,7 +70,7 @@ unfolding le
 below-zero x h = or_left (lt x zero_f) (eq x zero_f) h
 
 -- ---- what holds of the sheet that such settings give
-module _ (lo hi : List Float) (number : GivenU64) (tolerance border : GivenF64) where
+module _ (lo hi : List Float) (number : Option ℕ) (tolerance border : Option Float) where
   abbrev pub divisions_from : List ℕ
   divisions_from = num_divisions (number_of number) lo hi
 

@@ -2,8 +2,7 @@
 -- Assumes nothing.
 use Rattle.std.specs.Prelude.{List, [], ◌∷◌, Float}
 use Rattle.floats.specs.Rounded.{zero_f, pow2, pow2⁻}
-use Rattle.grid_search.specs.declared.GivenU64.TheVariants as number
-use Rattle.grid_search.specs.declared.GivenF64.TheVariants as float
+use Rattle.std.specs.Prelude.{Some}
 use Rattle.grid_search.specs.declared.GridSearch.{GridSearch}
 use Rattle.grid_search.specs.Sheet.{sheet_from}
 
@@ -16,4 +15,4 @@ high_of_s = pow2 3 ∷ pow2 2 ∷ []
 
 unfoldable pub S : GridSearch
 unfolding sheet_from
-S = sheet_from low_of_s high_of_s (number.Given 8) (float.Given (pow2⁻ 9)) (float.Given zero_f)
+S = sheet_from low_of_s high_of_s (Some 8) (Some (pow2⁻ 9)) (Some zero_f)

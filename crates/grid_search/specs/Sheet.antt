@@ -1,10 +1,12 @@
 -- Module 5: the sheet that settings give, in the Rust's order of operations; what turns the settings away; and when a sheet handed back is good.
 -- Assumes nothing.
-use Rattle.std.specs.Prelude.{ℕ, Bool, true, false, cond, not, ◌&&◌, ◌||◌, List, [], ◌∷◌, map, ltb, eqb, length, Float}
+use Rattle.std.specs.Prelude.{ℕ, Bool, true, false, cond, not, ◌&&◌, ◌||◌, List, [], ◌∷◌, map, ltb, eqb, length, Float, Option, Some, None, Result}
 use Rattle.std.specs.Float.{binary64}
 use Rattle.std.specs.Float.Ieee.{round, lt, le}
 use Rattle.basics.specs.Lists.{all, fold_all, zip_with}
 use Rattle.basics.specs.Refusals.{Test, refuse, fault, Answer, refused, success, answer}
+use Rattle.basics.specs.declared.Refusal.{Refusal}
+use Rattle.basics.specs.Answers.{answered}
 use Rattle.floats.specs.Rounded.{◌⊕◌, ◌⊖◌, ◌⊗◌, ◌⊘◌, of_nat, zero_f, pow2, pow2⁻}
 use Rattle.floats.specs.Tests.{max_of, finite, same_bits}
 use Rattle.floats.specs.Sqrt.{sqrt_of}
@@ -13,29 +15,23 @@ use Rattle.geometry.specs.Position.{coords, position_of, dimension, coordinate}
 use Rattle.geometry.specs.Distances.{from}
 use Rattle.grid.specs.declared.Divisions.{Divisions}
 use Rattle.grid.specs.Divisions.{divisions_of, num_divisions}
-use Rattle.grid_search.specs.declared.GivenU64.{GivenU64}
-use Rattle.grid_search.specs.declared.GivenU64.TheVariants as number
-use Rattle.grid_search.specs.declared.GivenF64.{GivenF64}
-use Rattle.grid_search.specs.declared.GivenF64.TheVariants as float
 use Rattle.grid_search.specs.declared.GridSearch.{GridSearch}
-use Rattle.grid_search.specs.declared.Made.{Made}
-use Rattle.grid_search.specs.declared.Made.TheVariants.{Sheet, Refused}
 
 -- ---- settings: left out means 100 divisions, tolerance 1e-4, border 1e-2, each the binary64 nearest to that decimal
 
-unfoldable pub number_of : GivenU64 → ℕ
-number_of number.LeftOut = 100
-number_of (number.Given n) = n
+unfoldable pub number_of : Option ℕ → ℕ
+number_of None = 100
+number_of (Some n) = n
 
-unfoldable pub tolerance_of : GivenF64 → Float
+unfoldable pub tolerance_of : Option Float → Float
 unfolding round
-tolerance_of float.LeftOut = round binary64 false 1 10000
-tolerance_of (float.Given t) = t
+tolerance_of None = round binary64 false 1 10000
+tolerance_of (Some t) = t
 
-unfoldable pub border_of : GivenF64 → Float
+unfoldable pub border_of : Option Float → Float
 unfolding round
-border_of float.LeftOut = round binary64 false 1 100
-border_of (float.Given b) = b
+border_of None = round binary64 false 1 100
+border_of (Some b) = b
 
 -- ---- what they give
 
@@ -67,7 +63,7 @@ unfoldable pub diagonal : ℕ → Float
 unfolding sqrt_of
 diagonal n = sqrt_of (of_nat n)
 
-unfoldable pub sheet_from : List Float → List Float → GivenU64 → GivenF64 → GivenF64 → GridSearch
+unfoldable pub sheet_from : List Float → List Float → Option ℕ → Option Float → Option Float → GridSearch
 unfolding number_of tolerance_of border_of lowered raised side_of covered_of diagonal num_divisions
 sheet_from lo hi number tolerance border =
     -- the divisions come from the corners before the border widens them
@@ -109,7 +105,7 @@ in_order (a ∷ los) (b ∷ his) = lt a b && in_order los his
 in_order [] his = true
 in_order (a ∷ los) [] = true
 
-unfoldable pub sheet_tests : List Float → List Float → GivenU64 → GivenF64 → GivenF64 → List Test
+unfoldable pub sheet_tests : List Float → List Float → Option ℕ → Option Float → Option Float → List Test
 unfolding out_of_limits in_order number_of tolerance_of border_of sheet_from lt le
 sheet_tests lo hi number tolerance border =
     refuse 1 (not (dimension (length lo)))
@@ -124,14 +120,13 @@ sheet_tests lo hi number tolerance border =
     ∷ refuse 10 (le (sheet_from lo hi number tolerance border).side_length (pow2 1 ⊗ tolerance_of tolerance))
     ∷ []
 
-unfoldable pub new_sheet : List Float → List Float → GivenU64 → GivenF64 → GivenF64 → Answer GridSearch
+unfoldable pub new_sheet : List Float → List Float → Option ℕ → Option Float → Option Float → Answer GridSearch
 unfolding sheet_from fault sheet_tests answer
 new_sheet lo hi number tolerance border = answer (fault (sheet_tests lo hi number tolerance border)) (sheet_from lo hi number tolerance border)
 
 -- the answer's number or its sheet
-abbrev pub made : Made → Answer GridSearch
-made (Sheet s) = success s
-made (Refused n) = refused n
+abbrev pub made : Result GridSearch Refusal → Answer GridSearch
+made = answered (λ (s : GridSearch). s)
 
 -- ---- a sheet handed back: it is the one that its settings give, bit for bit
 

@@ -4,38 +4,28 @@
 
 ghost use Rattle.std.specs.Prelude.{◌≤◌, ◌≡◌, true};
 ghost use Rattle.basics.specs.Lists.{all};
+ghost use Rattle.basics.specs.Refusals.{fault};
+ghost use Rattle.basics.specs.Answers.{fault_in};
 ghost use Rattle.floats.specs.Rounded.{◌⊕◌, ◌⊖◌, ◌⊗◌, ◌⊘◌, of_nat};
 ghost use Rattle.geometry.specs.Position.{coords, position_of, dimension};
 ghost use Rattle.grid.specs.Divisions.{counts, division};
-ghost use Rattle.grid_search.specs.Sheet.{number_of, tolerance_of, border_of, largest as largest_of, lowered as lowered_of, raised as raised_of, side_of, covered_of, diagonal as diagonal_of, sheet_from, past_limits, out_of_limits, in_order, made, new_sheet, same_position, same_divisions, same_sheet, sheet_ok};
+ghost use Rattle.grid_search.specs.Sheet.{number_of, tolerance_of, largest as largest_of, lowered as lowered_of, raised as raised_of, side_of, covered_of, diagonal as diagonal_of, sheet_from, past_limits, out_of_limits, in_order, made, new_sheet, same_position, same_sheet, sheet_ok};
+ghost use Rattle.grid_search.specs.Steps.{in_force_tests};
 
-use geometry::Position;
+use basics::Refusal;
+use geometry::{Dimension, Position};
 use grid::Divisions;
-
-// A setting that is a number: given, or left out.
-#[derive(Clone, Copy)]
-pub enum GivenU64 {
-    LeftOut,
-    Given(u64),
-}
-
-// A setting that is a float: given, or left out.
-#[derive(Clone, Copy)]
-pub enum GivenF64 {
-    LeftOut,
-    Given(f64),
-}
 
 // The sheet. In 2D every third coordinate is +0 and the third division 1.
 #[derive(Clone, Copy)]
 pub struct GridSearch {
-    // the settings: dimension, corners, divisions of the longest axis, tolerance, border
+    // the settings: dimension, corners, and divisions of the longest axis, tolerance and border, each given or left out
     pub ndim: usize,
     pub low: Position,
     pub high: Position,
-    pub number: GivenU64,
-    pub tolerance: GivenF64,
-    pub border_tol: GivenF64,
+    pub number: Option<u64>,
+    pub tolerance: Option<f64>,
+    pub border_tol: Option<f64>,
     // what they give
     pub ndiv: Divisions,
     pub xmin: Position,
@@ -45,16 +35,7 @@ pub struct GridSearch {
     pub radius: f64,
 }
 
-// What `GridSearch::new` answers.
-#[derive(Clone, Copy)]
-pub enum Made {
-    Sheet(GridSearch),
-    Refused(u64),
-}
-
-// √2 and √3, each the nearest `f64`.
-const SQRT_2: f64 = 1.4142135623730951;
-
+// √3, to the nearest `f64`.
 const SQRT_3: f64 = 1.7320508075688772;
 
 // The largest tolerance and border, and the least tolerance: 2^-20.
@@ -62,40 +43,9 @@ const MOST: f64 = 1024.0;
 
 const LEAST: f64 = 0.00000095367431640625;
 
-// The divisions in force.
-fn number_in_force(number: GivenU64) -> u64
-    ensures { result ≡ number_of number }
-{
-    match number {
-        GivenU64::Given(v) => v,
-        GivenU64::LeftOut => GridSearch::NDIV,
-    }
-}
-
-// The tolerance in force.
-pub fn tolerance_in_force(tolerance: GivenF64) -> f64
-    ensures { result ≡ tolerance_of tolerance }
-{
-    match tolerance {
-        GivenF64::Given(v) => v,
-        GivenF64::LeftOut => GridSearch::TOLERANCE,
-    }
-}
-
-// The border in force.
-fn border_in_force(border_tol: GivenF64) -> f64
-    ensures { result ≡ border_of border_tol }
-{
-    match border_tol {
-        GivenF64::Given(v) => v,
-        GivenF64::LeftOut => GridSearch::BORDER_TOL,
-    }
-}
-
 // The low corner moved outwards by the border.
-pub fn lowered(ndim: usize, border: f64, low: Position) -> Position
-    requires { dimension ndim ≡ true }
-    ensures { result ≡ position_of (lowered_of border (coords ndim low)) }
+pub fn lowered(ndim: Dimension, border: f64, low: Position) -> Position
+    ensures { result ≡ position_of (lowered_of border (coords ndim.n low)) }
 {
     if border > 0.0 {
         let moved = Position {
@@ -109,9 +59,8 @@ pub fn lowered(ndim: usize, border: f64, low: Position) -> Position
 }
 
 // The high corner moved outwards by the border.
-pub fn raised(ndim: usize, border: f64, high: Position) -> Position
-    requires { dimension ndim ≡ true }
-    ensures { result ≡ position_of (raised_of border (coords ndim high)) }
+pub fn raised(ndim: Dimension, border: f64, high: Position) -> Position
+    ensures { result ≡ position_of (raised_of border (coords ndim.n high)) }
 {
     if border > 0.0 {
         let moved = Position {
@@ -125,12 +74,11 @@ pub fn raised(ndim: usize, border: f64, high: Position) -> Position
 }
 
 // The largest of the lengths along the axes in use.
-pub fn largest(ndim: usize, lengths: Position) -> f64
-    requires { dimension ndim ≡ true }
-    ensures { result ≡ largest_of (coords ndim lengths) }
+pub fn largest(ndim: Dimension, lengths: Position) -> f64
+    ensures { result ≡ largest_of (coords ndim.n lengths) }
 {
     let first = floats::max(lengths.x, lengths.y);
-    if ndim == 2 {
+    if ndim.n == 2 {
         return first;
     }
     floats::max(first, lengths.z)
@@ -145,10 +93,9 @@ fn side_along(xmin: f64, xmax: f64, n: u64) -> f64
 }
 
 // The side of the square or cubic containers: the largest along an axis.
-fn side(ndim: usize, xmin: Position, xmax: Position, ndiv: Divisions) -> f64
-    requires fact_1 { dimension ndim ≡ true }
-    requires fact_2 { all division (counts ndim ndiv) ≡ true }
-    ensures { result ≡ side_of (coords ndim xmin) (coords ndim xmax) (counts ndim ndiv) }
+fn side(ndim: Dimension, xmin: Position, xmax: Position, ndiv: Divisions) -> f64
+    requires divisions { all division (counts ndim.n ndiv) ≡ true }
+    ensures { result ≡ side_of (coords ndim.n xmin) (coords ndim.n xmax) (counts ndim.n ndiv) }
 {
     let n = ndiv.in_use(ndim);
     let sides = Position {
@@ -168,10 +115,9 @@ fn end_along(xmin: f64, side: f64, n: u64) -> f64
 }
 
 // The high corner of the containers, which cover the box.
-pub fn covered(ndim: usize, xmin: Position, side: f64, ndiv: Divisions) -> Position
-    requires fact_1 { dimension ndim ≡ true }
-    requires fact_2 { all division (counts ndim ndiv) ≡ true }
-    ensures { result ≡ position_of (covered_of side (coords ndim xmin) (counts ndim ndiv)) }
+pub fn covered(ndim: Dimension, xmin: Position, side: f64, ndiv: Divisions) -> Position
+    requires divisions { all division (counts ndim.n ndiv) ≡ true }
+    ensures { result ≡ position_of (covered_of side (coords ndim.n xmin) (counts ndim.n ndiv)) }
 {
     let n = ndiv.in_use(ndim);
     let ends = Position {
@@ -183,40 +129,42 @@ pub fn covered(ndim: usize, xmin: Position, side: f64, ndiv: Divisions) -> Posit
 }
 
 // The diagonal of a square or a cube of side 1.
-fn diagonal(ndim: usize) -> f64
-    requires { dimension ndim ≡ true }
-    ensures { result ≡ diagonal_of ndim }
+fn diagonal(ndim: Dimension) -> f64
+    ensures { result ≡ diagonal_of ndim.n }
 {
-    if ndim == 2 { SQRT_2 } else { SQRT_3 }
+    if ndim.n == 2 {
+        std::f64::consts::SQRT_2
+    } else {
+        SQRT_3
+    }
 }
 
 // The sheet that settings give which passed the tests 1 to 9.
 fn built(
-    ndim: usize,
+    ndim: Dimension,
     low: Position,
     high: Position,
-    number: GivenU64,
-    tolerance: GivenF64,
-    border_tol: GivenF64,
+    number: Option<u64>,
+    tolerance: Option<f64>,
+    border_tol: Option<f64>,
 ) -> GridSearch
-    requires fact_1 { dimension ndim ≡ true }
-    requires fact_2 { in_order (coords ndim low) (coords ndim high) ≡ true }
-    requires fact_3 { 1 ≤ number_of number }
-    requires fact_4 { number_of number ≤ 1024 }
-    ensures { result ≡ sheet_from (coords ndim low) (coords ndim high) number tolerance border_tol }
+    requires in_order { in_order (coords ndim.n low) (coords ndim.n high) ≡ true }
+    requires least { 1 ≤ number_of number }
+    requires most { number_of number ≤ 1024 }
+    ensures { result ≡ sheet_from (coords ndim.n low) (coords ndim.n high) number tolerance border_tol }
 {
     // the divisions come from the corners before the border widens them
-    let ndiv = grid::num_divisions(ndim, number_in_force(number), low, high);
-    let border = border_in_force(border_tol);
+    let ndiv = grid::num_divisions(ndim, number.unwrap_or(GridSearch::NDIV), low, high);
+    let border = border_tol.unwrap_or(GridSearch::BORDER_TOL);
     let xmin = lowered(ndim, border, low);
     let side_length = side(ndim, xmin, raised(ndim, border, high), ndiv);
     let xmax = covered(ndim, xmin, side_length, ndiv);
     let d = diagonal(ndim);
-    let tol_dist = d * tolerance_in_force(tolerance);
+    let tol_dist = d * tolerance.unwrap_or(GridSearch::TOLERANCE);
     let low = low.in_use(ndim);
     let high = high.in_use(ndim);
     GridSearch {
-        ndim,
+        ndim: ndim.n,
         low,
         high,
         number,
@@ -239,9 +187,14 @@ pub fn past_limits(tolerance: f64, border: f64) -> bool
 }
 
 // 3: a float not finite or past its limit.
-fn out_of_limits(ndim: usize, low: Position, high: Position, tolerance: f64, border: f64) -> bool
-    requires { dimension ndim ≡ true }
-    ensures { result ≡ out_of_limits (coords ndim low) (coords ndim high) tolerance border }
+fn out_of_limits(
+    ndim: Dimension,
+    low: Position,
+    high: Position,
+    tolerance: f64,
+    border: f64,
+) -> bool
+    ensures { result ≡ out_of_limits (coords ndim.n low) (coords ndim.n high) tolerance border }
 {
     let low_ok = geometry::position_ok(ndim, low);
     let high_ok = geometry::position_ok(ndim, high);
@@ -250,54 +203,67 @@ fn out_of_limits(ndim: usize, low: Position, high: Position, tolerance: f64, bor
 }
 
 // 7: the high corner is above the low one on every axis.
-pub fn is_above(ndim: usize, low: Position, high: Position) -> bool
-    requires { dimension ndim ≡ true }
-    ensures { result ≡ in_order (coords ndim low) (coords ndim high) }
+pub fn is_above(ndim: Dimension, low: Position, high: Position) -> bool
+    ensures { result ≡ in_order (coords ndim.n low) (coords ndim.n high) }
 {
     geometry::on_every_axis(ndim, low.x < high.x, low.y < high.y, low.z < high.z)
 }
 
-// The sheet of corners that are positions, or what turns the settings away: 3 to 10.
-fn sheet_from(
-    ndim: usize,
+// What turns settings in force away that come with corners which are positions: 3 to 9.
+fn settings_fault(
+    ndim: Dimension,
     low: Position,
     high: Position,
-    number: GivenU64,
-    tolerance: GivenF64,
-    border_tol: GivenF64,
-) -> Made
-    requires { dimension ndim ≡ true }
-    ensures { made result ≡ new_sheet (coords ndim low) (coords ndim high) number tolerance border_tol }
+    ndiv_long: u64,
+    tol: f64,
+    border: f64,
+) -> Result<(), Refusal>
+    ensures { fault_in result ≡ fault (in_force_tests (coords ndim.n low) (coords ndim.n high) ndiv_long tol border) }
 {
-    let ndiv_long = number_in_force(number);
-    let tol = tolerance_in_force(tolerance);
-    let border = border_in_force(border_tol);
     if out_of_limits(ndim, low, high, tol, border) {
-        return Made::Refused(3);
+        return Err(Refusal::Limit);
     }
     if ndiv_long == 0 {
-        return Made::Refused(4);
+        return Err(Refusal::NoDivisions);
     }
     if ndiv_long == 1 {
-        return Made::Refused(5);
+        return Err(Refusal::OneDivision);
     }
     if ndiv_long > 1024 {
-        return Made::Refused(6);
+        return Err(Refusal::ManyDivisions);
     }
     if !is_above(ndim, low, high) {
-        return Made::Refused(7);
+        return Err(Refusal::Corners);
     }
     if tol <= 0.0 {
-        return Made::Refused(8);
+        return Err(Refusal::Tolerance);
     }
     if border < 0.0 {
-        return Made::Refused(9);
+        return Err(Refusal::Border);
     }
+    Ok(())
+}
+
+// The sheet of corners that are positions, or what turns the settings away: 3 to 10.
+fn sheet_from(
+    ndim: Dimension,
+    low: Position,
+    high: Position,
+    number: Option<u64>,
+    tolerance: Option<f64>,
+    border_tol: Option<f64>,
+) -> Result<GridSearch, Refusal>
+    ensures { made result ≡ new_sheet (coords ndim.n low) (coords ndim.n high) number tolerance border_tol }
+{
+    let ndiv_long = number.unwrap_or(GridSearch::NDIV);
+    let tol = tolerance.unwrap_or(GridSearch::TOLERANCE);
+    let border = border_tol.unwrap_or(GridSearch::BORDER_TOL);
+    settings_fault(ndim, low, high, ndiv_long, tol, border)?;
     let sheet = built(ndim, low, high, number, tolerance, border_tol);
     if sheet.side_length <= 2.0 * tol {
-        return Made::Refused(10);
+        return Err(Refusal::Side);
     }
-    Made::Sheet(sheet)
+    Ok(sheet)
 }
 
 impl GridSearch {
@@ -308,22 +274,26 @@ impl GridSearch {
 
     pub const BORDER_TOL: f64 = 1e-2;
 
-    // The sheet of these corners and settings, or document 01's number.
+    // The tolerance in force.
+    pub fn tolerance_in_force(self) -> f64
+        ensures { result ≡ tolerance_of self.tolerance }
+    {
+        self.tolerance.unwrap_or(Self::TOLERANCE)
+    }
+
+    // The sheet of these corners and settings, or why there is none.
     pub fn new(
         xmin: &[f64],
         xmax: &[f64],
-        ndiv: GivenU64,
-        tolerance: GivenF64,
-        border_tol: GivenF64,
-    ) -> Made
+        ndiv: Option<u64>,
+        tolerance: Option<f64>,
+        border_tol: Option<f64>,
+    ) -> Result<GridSearch, Refusal>
         ensures { made result ≡ new_sheet xmin.now xmax.now ndiv tolerance border_tol }
     {
-        let ndim = xmin.len();
-        if !geometry::is_dimension(ndim) {
-            return Made::Refused(1);
-        }
-        if xmax.len() != ndim {
-            return Made::Refused(2);
+        let ndim = Dimension::try_from(xmin.len())?;
+        if xmax.len() != ndim.n {
+            return Err(Refusal::Length);
         }
         let low = Position::new(xmin);
         let high = Position::new(xmax);
@@ -332,26 +302,22 @@ impl GridSearch {
 }
 
 // Whether two positions are the same bit for bit.
+// Kept: `==` of floats takes -0 for +0, and a derive compares by it.
 fn same_position(p: Position, q: Position) -> bool
     ensures { result ≡ same_position p q }
 {
     floats::same_bits(p.x, q.x) & (floats::same_bits(p.y, q.y) & floats::same_bits(p.z, q.z))
 }
 
-fn same_divisions(d: Divisions, e: Divisions) -> bool
-    ensures { result ≡ same_divisions d e }
-{
-    (d.x == e.x) & ((d.y == e.y) & (d.z == e.z))
-}
-
 // Whether two sheets of the same settings are the same bit for bit.
+// Kept: its floats are compared bit for bit, as above.
 fn same_sheet(s: GridSearch, t: GridSearch) -> bool
     ensures { result ≡ same_sheet s t }
 {
     (s.ndim == t.ndim)
         & (same_position(s.low, t.low)
             & (same_position(s.high, t.high)
-                & (same_divisions(s.ndiv, t.ndiv)
+                & ((s.ndiv == t.ndiv)
                     & (same_position(s.xmin, t.xmin)
                         & (same_position(s.xmax, t.xmax)
                             & (floats::same_bits(s.side_length, t.side_length)
@@ -363,15 +329,14 @@ fn same_sheet(s: GridSearch, t: GridSearch) -> bool
 pub fn is_sheet(s: GridSearch) -> bool
     ensures { result ≡ sheet_ok s }
 {
-    if !geometry::is_dimension(s.ndim) {
+    let Ok(ndim) = Dimension::try_from(s.ndim) else {
         return false;
-    }
+    };
     let number = s.number;
     let tolerance = s.tolerance;
     let border_tol = s.border_tol;
-    let made = sheet_from(s.ndim, s.low, s.high, number, tolerance, border_tol);
-    match made {
-        Made::Sheet(t) => same_sheet(s, t),
-        Made::Refused(_) => false,
+    match sheet_from(ndim, s.low, s.high, number, tolerance, border_tol) {
+        Ok(t) => same_sheet(s, t),
+        Err(_) => false,
     }
 }

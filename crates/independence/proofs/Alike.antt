@@ -53,8 +53,8 @@ module _ (i : ℕ) (s : GridSearch) (l : Holding) (e : own i (rows_in l) ≡ [])
   unfolding keep has
   no_rows p = holds-own i p (rows_in l) ∙ ap (λ (rows : List Row). holds i (keep p rows)) e
 
-  pub near-nothing : (x : List Float) → near s l x i ≡ false
-  near-nothing x = near-is s l x i ∙ rw (no_rows (is_near s x), and-false)
+  pub near_nothing : (x : List Float) → near s l x i ≡ false
+  near_nothing x = near-is s l x i ∙ rw (no_rows (is_near s x), and-false)
 
-  pub on-nothing : (p : Asked) (f : Filter) → on s l p f i ≡ false
-  on-nothing p f = on-is s l p f i ∙ rw (no_rows (is_on s p f), and-false)
+  pub on_nothing : (p : Asked) (f : Filter) → on s l p f i ≡ false
+  on_nothing p f = on-is s l p f i ∙ rw (no_rows (is_on s p f), and-false)

@@ -112,14 +112,14 @@ module _ (s : GridSearch) (l : Holding) (x : List Float) where
   pub finding : Finding s l x
   unfolding has
   finding = record {
-    is-near = found-near;
-    is-nearest = no_nearer;
+    is_near = found-near;
+    is_nearest = no_nearer;
     is_lowest = no_lower;
-    nothing-near = λ e i.
+    nothing_near = λ e i.
         near-is s l x i
         ∙ ap (λ (rs : List Row). pass (near_tests s l x) && holds i rs) (chosen_none s x (rows_in l) (valued e).1)
         ∙ and-false (pass (near_tests s l x));
-    refused-near = λ n e i. near-is s l x i ∙ ap (λ (b : Bool). b && holds i rows) (turned e);
+    refused_near = λ n e i. near-is s l x i ∙ ap (λ (b : Bool). b && holds i rows) (turned e);
   }
 
 -- ---- listing
@@ -189,10 +189,10 @@ module _ (s : GridSearch) (l : Holding) (p : Asked) (f : Filter) (lent : List �
         (ap (λ (t : Filled). t.list) listed-is ∙ d.1, d.2, λ i. sym (on-is i ∙ ap (λ (b : Bool). b && has i (ids_in s l p f)) t));
     ascend = listed-ascend;
     no_more = listed-no_more;
-    long-enough = λ h e.
+    long_enough = λ h e.
         never_14 (placed_tests s l p f) (ltb (length lent) (length (ids_in s l p f))) no_14 (le-ltb (length lent) (length (ids_in s l p f)) (omega (arith, listed-no_more)))
         (fill-refused (ids_in s l p f) lent 14 (fault tests) (ap (λ (t : Filled). t.answer) (sym listed-is) ∙ e));
-    refused-on = λ n e g i.
+    refused_on = λ n e g i.
         let d = fill-refused (ids_in s l p f) lent n (fault tests) (ap (λ (t : Filled). t.answer) (sym listed-is) ∙ e) in
         on-is i ∙ ap (λ (b : Bool). b && has i (ids_in s l p f)) (before_14 (placed_tests s l p f) (ltb (length lent) (length (ids_in s l p f))) n d g);
   }

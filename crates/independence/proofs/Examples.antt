@@ -10,8 +10,7 @@ use lib.Ieee.{Float, nan, fin, add, sub, mul, div, of_int, to_unsigned}
 use Rattle.basics.specs.Refusals.{refused, success}
 use Rattle.floats.specs.Rounded.{◌⊖◌, zero_f, pow2, pow2⁻}
 use Rattle.floats.specs.Tests.{within}
-use Rattle.grid_search.specs.declared.GivenU64.TheVariants as number
-use Rattle.grid_search.specs.declared.GivenF64.TheVariants as float
+use Rattle.std.specs.Prelude.{Some}
 use Rattle.grid_search.specs.declared.GridSearch.{GridSearch}
 use Rattle.grid_search.specs.Sheet.{sheet_from}
 use Rattle.table.specs.Rows.{key_in, before, same}
@@ -28,7 +27,7 @@ use Rattle.independence.specs.Claims.{replay}
 -- corners (0,0) and (8,4), divisions 8, border 0, tolerance 1/512
 S : GridSearch
 unfolding sheet_from
-S = sheet_from (zero_f ∷ zero_f ∷ []) (pow2 3 ∷ pow2 2 ∷ []) (number.Given 8) (float.Given (pow2⁻ 9)) (float.Given zero_f)
+S = sheet_from (zero_f ∷ zero_f ∷ []) (pow2 3 ∷ pow2 2 ∷ []) (Some 8) (Some (pow2⁻ 9)) (Some zero_f)
 
 -- no row in use, and the lists full of one thing or another
 empty : ℕ → ℕ → Float → Library

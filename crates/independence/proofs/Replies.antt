@@ -45,9 +45,9 @@ by_tests : (s : GridSearch) (l : Holding) (c : Change)
     → (held_by s l.library l.directory (changing s l.library c)).answer ≡ answer (fault (change_tests s l c)) (counting s c (rows_in l))
 by_tests s l c = ap (λ (t : Held). t.answer) (changing-held s l c) ∙ settled (fault (change_tests s l c)) (counting s c (rows_in l)) (changed s l c) l
 
-pub reply-is : (s : GridSearch) (l : Holding) (c : Change) → (step s l (change c)).reply ≡ counted (answer (fault (change_tests s l c)) (counting s c (rows_in l)))
+pub reply_is : (s : GridSearch) (l : Holding) (c : Change) → (step s l (change c)).reply ≡ counted (answer (fault (change_tests s l c)) (counting s c (rows_in l)))
 unfolding step
-reply-is s l c = ap counted (by_tests s l c)
+reply_is s l c = ap counted (by_tests s l c)
 
 -- a listing by the rows
 list_reply : GridSearch → List Row → Asked → Filter → List ℕ → Filled
@@ -61,7 +61,7 @@ module _ (s : GridSearch) (l : Holding) (v : fault (holding_tests s l) ≡ none)
 
   change-is : (c : Change) → (step s l (change c)).reply ≡ counted (answer (fault (own_tests s l c)) (counting s c (rows_in l)))
   unfolding change_tests
-  change-is c = reply-is s l c ∙ ap (λ (o : Option ℕ). counted (answer o (counting s c (rows_in l)))) (own_decide (own_tests s l c))
+  change-is c = reply_is s l c ∙ ap (λ (o : Option ℕ). counted (answer o (counting s c (rows_in l)))) (own_decide (own_tests s l c))
 
   search_is : (x : List Float) → searching s l x ≡ answer (fault (position_tests s x (x ∷ []))) (chosen s x (near_rows s x (rows_in l)))
   unfolding near_tests

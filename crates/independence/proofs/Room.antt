@@ -27,9 +27,9 @@ use Rattle.independence.specs.Claims.{Freeing, Vanishing}
 use Rattle.independence.proofs.Holdings.{places_tests, order_in}
 use Rattle.independence.proofs.Plain.{plain_tests, counting, left}
 use Rattle.independence.proofs.Changes.{own_tests, change_tests, changed, fit, step_done, changed_table, changed_space, changed_passes}
-use Rattle.independence.proofs.Replies.{value_of_lem, refusal_of, reply-is}
+use Rattle.independence.proofs.Replies.{value_of_lem, refusal_of, reply_is}
 use Rattle.independence.proofs.Damage.{clean, says, came_later}
-use Rattle.independence.proofs.Alike.{near-nothing, on-nothing}
+use Rattle.independence.proofs.Alike.{near_nothing, on_nothing}
 
 counted_same : {a b : Answer ℕ} → counted a ≡ counted b → a ≡ b
 counted_same e = cc
@@ -69,7 +69,7 @@ module _ (s : GridSearch) (j : ℕ) (x : List Float) where
   -- its position is good
   position_passes : (h : Holding) → fault (holding_tests s h) ≡ none → (step s h (change (insert j x))).reply ≡ counted (refused 12) → fault (position_tests s x (points s x)) ≡ none
   position_passes h v e =
-      let f = refusal_of (fault (change_tests s h (insert j x))) (counting s (insert j x) (rows_in h)) (counted_same (sym (reply-is s h (insert j x)) ∙ e)) in
+      let f = refusal_of (fault (change_tests s h (insert j x))) (counting s (insert j x) (rows_in h)) (counted_same (sym (reply_is s h (insert j x)) ∙ e)) in
       came_later 12 (position_tests s x (points s x)) (room_last h) (no_12 s x (points s x)) (sym (past-library h v) ∙ f)
 
   -- so room decides
@@ -78,7 +78,7 @@ module _ (s : GridSearch) (j : ℕ) (x : List Float) where
       → (step s m (change (insert j x))).reply ≡ counted (answer (fault (refuse 12 (not b) ∷ [])) (length (rows_with s j x (rows_in m))))
   unfolding counting
   by_room m v p z q b e =
-      reply-is s m (insert j x)
+      reply_is s m (insert j x)
       ∙ ap (λ (o : Option ℕ). counted (answer o (length (rows_with s j x (rows_in m)))))
       (past-library m v ∙ fault-right (position_tests s x (points s x)) (room_last m) p ∙ room_decides m
       ∙ ap (λ (b : Bool). fault (refuse 12 (not b) ∷ [])) (ap (λ (u : Lent). roomy_in u (rows_with s j x (rows_in m))) q ∙ e))
@@ -98,7 +98,7 @@ module _ (s : GridSearch) (j : ℕ) (x : List Float) where
 pub freed : Freeing
 unfolding counting left effect fault answer
 freed s l i n j x a r =
-    let d = value_of_lem (fault (change_tests s l (strike i))) (counting s (strike i) (rows_in l)) (counted_same (sym (reply-is s l (strike i)) ∙ a)) in
+    let d = value_of_lem (fault (change_tests s l (strike i))) (counting s (strike i) (rows_in l)) (counted_same (sym (reply_is s l (strike i)) ∙ a)) in
     let v = fit s l (strike i) d.0 in
     let m = changed s l (strike i) in
     let k = (step_done s l (strike i) d.0).0 in
@@ -116,8 +116,8 @@ freed s l i n j x a r =
 pub vanished : Vanishing
 unfolding effect
 vanished s l i n a =
-    let d = value_of_lem (fault (change_tests s l (strike i))) (counting s (strike i) (rows_in l)) (counted_same (sym (reply-is s l (strike i)) ∙ a)) in
+    let d = value_of_lem (fault (change_tests s l (strike i))) (counting s (strike i) (rows_in l)) (counted_same (sym (reply_is s l (strike i)) ∙ a)) in
     let m = (step s l (change (strike i))).holding in
     let e : own i (rows_in m) ≡ [] =
     ap (λ (k : Holding). own i (rows_in k)) (step_done s l (strike i) d.0).0 ∙ ap (own i) (changed_table s l (strike i)) ∙ own_gone i (rows_in l) in
-    record { no_row = e; near-nothing = near-nothing i s m e; on-nothing = on-nothing i s m e }
+    record { no_row = e; near_nothing = near_nothing i s m e; on_nothing = on_nothing i s m e }

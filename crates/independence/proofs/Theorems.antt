@@ -31,7 +31,7 @@ use Rattle.independence.proofs.Through.{same-through, up_to_date}
 
 module _ (l : Holding) (e : Empty l) where
   nothing_yet : rows_in l ≡ []
-  nothing_yet = empty_table l.library e.none-used
+  nothing_yet = empty_table l.library e.none_used
 
   in_order : sorted (map slot_of (rows_in l)) ≡ true
   unfolding sorted
@@ -59,10 +59,10 @@ rows_of_histories s l e calls =
 -- ---- 3
 
 pub run_sound : Soundness
-run_sound s l v calls = record { passes = tests_kept s calls l v; same-space = space_kept s calls l; blameless = blameless-run s calls l v }
+run_sound s l v calls = record { passes = tests_kept s calls l v; same_space = space_kept s calls l; blameless = blameless-run s calls l v }
 
 pub start : Start
-start s l k v w t e = empty_in s l e.none-used e.no_place k v w t
+start s l k v w t e = empty_in s l e.none_used e.no_place k v w t
 
 -- ---- 1
 
@@ -84,7 +84,7 @@ independent s l l' e e' z calls i = go (fault (holding_tests s l)) refl (fault (
         let R = c.related in
         let t = alike s (run s l calls) (run s l' (replay i s l calls)) R.one R.two refl in
         let r = sym (own-own i (rows_in (run s l calls))) ∙ ap (own i) R.rows in
-        record { accepts = c.accepts; rows = sym R.rows; near-alike = same-near i s _ _ t r; on_alike = same-on i s _ _ t r }
+        record { accepts = c.accepts; rows = sym R.rows; near_alike = same-near i s _ _ t r; on_alike = same-on i s _ _ t r }
     go (some n) u (some m) u' =
         let h = stays s l n u calls in
         let t = alike s l l' u u' refl in
@@ -92,11 +92,11 @@ independent s l l' e e' z calls i = go (fault (holding_tests s l)) refl (fault (
         record {
           accepts = rw (h.1 i);
           rows = rw (h.1 i, h.0) (sym alone);
-          near-alike = λ x. rw (h.1 i, h.0) (same-near i s l l' t r x);
+          near_alike = λ x. rw (h.1 i, h.0) (same-near i s l l' t r x);
           on_alike = λ p f. rw (h.1 i, h.0) (same-on i s l l' t r p f);
         }
-    go none v (some m) u' = absurd (some-ne-none m (sym u' ∙ empty_too s l' e'.none-used e'.no_place l z v))
-    go (some n) u none v' = absurd (some-ne-none n (sym u ∙ empty_too s l e.none-used e.no_place l' (sym z) v'))
+    go none v (some m) u' = absurd (some-ne-none m (sym u' ∙ empty_too s l' e'.none_used e'.no_place l z v))
+    go (some n) u none v' = absurd (some-ne-none n (sym u ∙ empty_too s l e.none_used e.no_place l' (sym z) v'))
 
 -- ---- 2
 
@@ -120,7 +120,7 @@ unfolding run replies
 answered s l e before c after = record {
   in_turn = replies-two s before (c ∷ after) l ∙ ap (λ (m : Holding). replies s l before ++ (step s (run s l before) c).reply ∷ replies s m after) (sym (run-two s before (c ∷ []) l));
   by_rows = λ m z v h.
-      let u = tests_kept s before l (empty_too s l e.none-used e.no_place m z v) in
+      let u = tests_kept s before l (empty_too s l e.none_used e.no_place m z v) in
       same-reply s (run s l before) m u v (space_kept s before l ∙ sym z) (sym ((rows_of_histories s l e before).only (rows_in m) (order_in s m v) h)) c;
   turned_away = λ n u. rw (stays s l n u before).0 (refused-step s l n u c);
 }

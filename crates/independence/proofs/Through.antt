@@ -69,20 +69,20 @@ module _ (s : GridSearch) (l : Library) (d : Directory) (e : fault (directory_te
   through-change : (c : Change) → Through s l d (change c)
   unfolding step
   through-change c = let k = besides c in unfold held_by in record {
-    reply-is = ap counted k.0 ∙ counted_cond (roomy_places d (table (changing s l c).library)) (changing s l c).answer (refused 12);
-    library-is = k.1;
+    reply_is = ap counted k.0 ∙ counted_cond (roomy_places d (table (changing s l c).library)) (changing s l c).answer (refused 12);
+    library_is = k.1;
   }
 
 through : (s : GridSearch) (l : Library) (d : Directory) → fault (directory_tests s l d) ≡ none → (c : Call) → Through s l d c
 unfolding step
 through s l d e (change c) = through-change s l d e c
 through s l d e (search x) = record {
-  reply-is = rw (room s l d e) (ap found (searched s l d e x));
-  library-is = λ r. refl;
+  reply_is = rw (room s l d e) (ap found (searched s l d e x));
+  library_is = λ r. refl;
 }
 through s l d e (list p f lent) = record {
-  reply-is = rw (room s l d e) (ap listed (listed_too s l d e p f lent));
-  library-is = λ r. refl;
+  reply_is = rw (room s l d e) (ap listed (listed_too s l d e p f lent));
+  library_is = λ r. refl;
 }
 
 -- what a striking leaves has no more entries than there were
@@ -99,7 +99,7 @@ module _ (s : GridSearch) (l : Library) (d : Directory) (e : fault (directory_te
   strikes : (step s (indexed l d) (change (strike i))).reply ≡ (step s (bare l) (change (strike i))).reply
   unfolding step changing striking
   strikes =
-      let r = (through s l d e (change (strike i))).reply-is in
+      let r = (through s l d e (change (strike i))).reply_is in
       let t : roomy_places d (table (changing s l (strike i)).library) ≡ true = struck-roomy (fault (strike_tests s l i)) (length (own i (table l))) in
       r ∙ ap (λ (b : Bool). cond b (step s (bare l) (change (strike i))).reply (counted (refused 12))) t
 
@@ -128,7 +128,7 @@ up_to_date s l d c a =
     let b = builds s new d (left_passes s l c (plain_passes s h c q)) k.not-long_places k.places-sound (places_left s h c q) in
     let after = (step_done s h c q).0 in
     record {
-      directory-is =
+      directory_is =
           ap (λ (m : Holding). m.directory) after
           ∙ ap (λ (x : Building). some x.directory) (sym b)
           ∙ sym (ap (λ (m : Holding). some (building s m.library d).directory) after);

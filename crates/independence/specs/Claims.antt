@@ -25,7 +25,7 @@ use Rattle.independence.specs.Queries.{near, distance, ids_in, on}
 
 -- "Empty means used count 0, rows of any content": the lists hold anything. And "an empty library's directory has no place in use".
 pub record Empty (h : Holding) : Type 0 where
-  pub none-used : h.library.used ≡ 0
+  pub none_used : h.library.used ≡ 0
   pub no_place : places_used h.directory ≡ 0
 
 -- ---- 1. Independence between ids
@@ -41,7 +41,7 @@ pub record Alike (s : GridSearch) (h h' : Holding) (calls : List Call) (i : ℕ)
   -- its rows are then those that h has of i
   pub rows : rows_in (run s h' (replay i s h calls)) ≡ own i (rows_in (run s h calls))
   -- i is near a position in h exactly if it is near it in h', for every position
-  pub near-alike : (x : List Float) → near s (run s h calls) x i ≡ near s (run s h' (replay i s h calls)) x i
+  pub near_alike : (x : List Float) → near s (run s h calls) x i ≡ near s (run s h' (replay i s h calls)) x i
   -- i is listed in h exactly if it is listed in h', for every place and filter
   pub on_alike : (p : Asked) (f : Filter) → on s (run s h calls) p f i ≡ on s (run s h' (replay i s h calls)) p f i
 
@@ -71,7 +71,7 @@ pub record Undamaged (s : GridSearch) (h : Holding) (calls : List Call) : Type 0
   -- the library passes 24 and 13 after the calls, and its directory 29: it is that of the rows
   pub passes : fault (holding_tests s (run s h calls)) ≡ none
   -- in the space that was lent
-  pub same-space : lent (run s h calls) ≡ lent h
+  pub same_space : lent (run s h calls) ≡ lent h
   -- and no call of the run is refused with 24, 13 or 29
   pub blameless : all (λ (r : Reply). not (blames (refusal r))) (replies s h calls) ≡ true
 
@@ -122,12 +122,12 @@ Answers = (s : GridSearch) (h : Holding) → Empty h → (before : List Call) (c
 
 pub record Finding (s : GridSearch) (h : Holding) (x : List Float) : Type 0 where
   -- the id found is near; no near id is computed nearer, and none at the same computed distance is lower
-  pub is-near : (j : ℕ) → searching s h x ≡ success (some j) → near s h x j ≡ true
-  pub is-nearest : (j : ℕ) → searching s h x ≡ success (some j) → (i : ℕ) → near s h x i ≡ true → le (distance s h x j) (distance s h x i) ≡ true
+  pub is_near : (j : ℕ) → searching s h x ≡ success (some j) → near s h x j ≡ true
+  pub is_nearest : (j : ℕ) → searching s h x ≡ success (some j) → (i : ℕ) → near s h x i ≡ true → le (distance s h x j) (distance s h x i) ≡ true
   pub is_lowest : (j : ℕ) → searching s h x ≡ success (some j) → (i : ℕ) → near s h x i ≡ true → eq (distance s h x i) (distance s h x j) ≡ true → j ≤ i
   -- Nothing, and a refusal, mean that no id is near
-  pub nothing-near : searching s h x ≡ success none → (i : ℕ) → near s h x i ≡ false
-  pub refused-near : (n : ℕ) → searching s h x ≡ refused n → (i : ℕ) → near s h x i ≡ false
+  pub nothing_near : searching s h x ≡ success none → (i : ℕ) → near s h x i ≡ false
+  pub refused_near : (n : ℕ) → searching s h x ≡ refused n → (i : ℕ) → near s h x i ≡ false
 
 pub record Writing (s : GridSearch) (h : Holding) (p : Asked) (f : Filter) (list : List ℕ) : Type 0 where
   -- a listing writes the ids that are on the place, and counts them
@@ -137,9 +137,9 @@ pub record Writing (s : GridSearch) (h : Holding) (p : Asked) (f : Filter) (list
   pub ascend : ascending (ids_in s h p f) ≡ true
   pub no_more : length (ids_in s h p f) ≤ h.library.used
   -- so a list as long as the rows in use is never too short: 14
-  pub long-enough : h.library.used ≤ length list → (listing_in s h p f list).answer ≡ refused 14 → ⊥
+  pub long_enough : h.library.used ≤ length list → (listing_in s h p f list).answer ≡ refused 14 → ⊥
   -- a refusal that is not about the lent list means that no id is on the place
-  pub refused-on : (n : ℕ) → (listing_in s h p f list).answer ≡ refused n → eqb n 14 ≡ false → (i : ℕ) → on s h p f i ≡ false
+  pub refused_on : (n : ℕ) → (listing_in s h p f list).answer ≡ refused n → eqb n 14 ≡ false → (i : ℕ) → on s h p f i ≡ false
 
 abbrev pub Meaning : Type 0
 Meaning = (s : GridSearch) (h : Holding) → ((x : List Float) → Finding s h x) × ((p : Asked) (f : Filter) (list : List ℕ) → Writing s h p f list)
@@ -170,8 +170,8 @@ Freeing = (s : GridSearch) (h : Holding) (i n j : ℕ) (x : List Float)
 -- the id has no row, is near no position and on no place
 pub record Vanished (s : GridSearch) (m : Holding) (i : ℕ) : Type 0 where
   pub no_row : own i (rows_in m) ≡ []
-  pub near-nothing : (x : List Float) → near s m x i ≡ false
-  pub on-nothing : (p : Asked) (f : Filter) → on s m p f i ≡ false
+  pub near_nothing : (x : List Float) → near s m x i ≡ false
+  pub on_nothing : (p : Asked) (f : Filter) → on s m p f i ≡ false
 
 -- once it is struck off, in any library, empty or not
 abbrev pub Vanishing : Type 0
@@ -183,9 +183,9 @@ Vanishing = (s : GridSearch) (h : Holding) (i n : ℕ) → (step s h (change (st
 -- a call on the library l with its directory d, and the same call on l alone
 pub record Through (s : GridSearch) (l : Library) (d : Directory) (c : Call) : Type 0 where
   -- the same reply; but 12, where the directory of the rows as the call would leave them has no room
-  pub reply-is : (step s (indexed l d) c).reply ≡ cond (roomy_places d (rows_in (step s (bare l) c).holding)) (step s (bare l) c).reply (counted (refused 12))
+  pub reply_is : (step s (indexed l d) c).reply ≡ cond (roomy_places d (rows_in (step s (bare l) c).holding)) (step s (bare l) c).reply (counted (refused 12))
   -- where it has room, the same library is left
-  pub library-is : roomy_places d (rows_in (step s (bare l) c).holding) ≡ true → (step s (indexed l d) c).holding.library ≡ (step s (bare l) c).holding.library
+  pub library_is : roomy_places d (rows_in (step s (bare l) c).holding) ≡ true → (step s (indexed l d) c).holding.library ≡ (step s (bare l) c).holding.library
 
 -- so of a search and of a listing, which change no row, the very same answer; and a striking is never 12
 pub record Plainly (s : GridSearch) (l : Library) (d : Directory) : Type 0 where
@@ -195,7 +195,7 @@ pub record Plainly (s : GridSearch) (l : Library) (d : Directory) : Type 0 where
 
 -- what a change that is accepted leaves as the directory: what a build writes for the new rows, which accepts them
 pub record Afresh (s : GridSearch) (l : Library) (d : Directory) (c : Change) : Type 0 where
-  pub directory-is : (step s (indexed l d) (change c)).holding.directory ≡ some (building s (step s (indexed l d) (change c)).holding.library d).directory
+  pub directory_is : (step s (indexed l d) (change c)).holding.directory ≡ some (building s (step s (indexed l d) (change c)).holding.library d).directory
   pub builds : (building s (step s (indexed l d) (change c)).holding.library d).answer ≡ success (places_used (step s (indexed l d) (change c)).holding.directory)
 
 -- for every directory that matches

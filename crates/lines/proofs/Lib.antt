@@ -1,4 +1,5 @@
 -- Laws of lines.
 pub mod Pieces
-pub mod Lines
+pub mod Yields
+pub mod LineLaws
 pub mod Examples

@@ -1,33 +1,45 @@
 -- A text cut at a byte: its first piece lies before the first such byte.
 -- Assumes nothing.
-use Prim.Native.Nat.{ℕ, suc, ◌+◌, ◌≤◌, ◌<◌}
-use native.Mathlib.Numerals.{add-one}
+use Prim.Native.Nat.{ℕ, suc, ◌≤◌, ◌<◌}
+use native.Mathlib.Numerals.{add-one, one-add}
 use native.Mathlib.Omega.{arith}
-use mathlib.Core.Path.{◌≡◌, refl, ap, ◌∙◌}
-use mathlib.Core.Bool.{false, cond, ◌||◌}
+use mathlib.Core.Path.{◌≡◌, refl, sym, ap, ◌∙◌}
+use mathlib.Core.Bool.{false, ◌||◌}
 use mathlib.Core.List.{List, [], ◌∷◌, ◌++◌}
-use lib.Dec.{eqb}
-use borrow.Author.Tests.{eq-eqb}
-use lib.ListN.{length, get_or, take, drop, drop_of_length-le, length-append}
-use lib.Seq.{drop-cons, take-append_seam, drop-append-add}
+use lib.Dec.{ltb, eqb}
+use Rattle.std.specs.List.{position, position_or_len, slice_split, onto_first}
+use Rattle.std.proofs.Common.{Some, None}
+use borrow.Author.Tests.{eq-eqb, ltb-true, ltb-false}
+use lib.ListN.{length, take, drop, length-append}
+use lib.Seq.{take-append_seam, drop-append-add}
 use Rattle.basics.specs.Lists.{leading, has}
 use Rattle.basics.proofs.Bools.{by_test, or_left, or_right}
 use Rattle.lines.specs.Pieces.{onto, split}
 
--- ---- the walk up to a byte
-
-pub leading_step : (v : ℕ) (s : List ℕ) (i : ℕ) → i < length s → leading v (drop i s) ≡ cond (eqb (get_or s i 0) v) 0 (suc (leading v (drop (i + 1) s)))
-unfolding leading
-leading_step v s i h = rw (add-one, drop-cons s i 0 h)
-
-pub leading_end : (v : ℕ) (s : List ℕ) (i : ℕ) → length s ≤ i → leading v (drop i s) ≡ 0
-unfolding leading
-leading_end v s i h = rw (drop_of_length-le s {i = i} h)
+-- ---- how many bytes stand before the first b
 
 pub leading-most : (v : ℕ) (s : List ℕ) → leading v s ≤ length s
 unfolding leading
 leading-most v [] = omega arith
 leading-most v (x ∷ s) = by_test (eqb x v) (λ e. rw e (omega arith)) (λ e. rw e (omega (arith, leading-most v s)))
+
+-- the same by std's `position`
+leading-position : (v : ℕ) (s : List ℕ) → leading v s ≡ position_or_len (λ b. eqb b v) s
+unfolding leading
+leading-position v [] = refl
+leading-position v (x ∷ s) = by_test (eqb x v) (λ e. rw e) (λ e. rw (e, leading-position v s) (sym (one-add _)))
+
+pub leading_found : (v : ℕ) (s : List ℕ) (n : ℕ) → Some n ≡ position (λ b. eqb b v) s → (leading v s ≡ n) × (n < length s)
+leading_found v s n e =
+    by_test (ltb (position_or_len (λ b. eqb b v) s) (length s))
+    (λ t. let z = rw t at e in let k : n ≡ position_or_len (λ b. eqb b v) s = cc in (leading-position v s ∙ sym k, omega (arith, k, ltb-true _ _ t)))
+    (λ t. absurd (let z = rw t at e in cc))
+
+pub leading_unfound : (v : ℕ) (s : List ℕ) → None ≡ position (λ b. eqb b v) s → leading v s ≡ length s
+leading_unfound v s e =
+    by_test (ltb (position_or_len (λ b. eqb b v) s) (length s))
+    (λ t. absurd (let z = rw t at e in cc))
+    (λ t. omega (arith, leading-most v s, leading-position v s, ltb-false _ _ t))
 
 -- where a byte is in neither of two texts, it is not in both together
 pub has-append : (v : ℕ) (a b : List ℕ) → has v (a ++ b) ≡ (has v a || has v b)
@@ -70,6 +82,17 @@ pub split-none : (b : ℕ) (s : List ℕ) → leading b s ≡ length s → split
 unfolding split onto leading
 split-none b [] h = refl
 split-none b (x ∷ s) h = by_test (eqb x b) (λ e. absurd (omega (arith, rw e at h))) (λ e. let k : leading b s ≡ length s = omega (arith, rw e at h) in rw (e, split-none b s k))
+
+-- they are what std's `split` gives
+onto-first : (x : ℕ) (ps : List (List ℕ)) → onto x ps ≡ onto_first x ps
+unfolding onto
+onto-first x [] = refl
+onto-first x (p ∷ ps) = refl
+
+pub split-is : (b : ℕ) (s : List ℕ) → split b s ≡ slice_split (λ x. eqb x b) s
+unfolding split
+split-is b [] = refl
+split-is b (x ∷ s) = rw (← split-is b s, ← onto-first x (split b s))
 
 -- the same of a text given by its pieces
 module _ (b : ℕ) (a : List ℕ) (h : has b a ≡ false) where

@@ -1,48 +1,66 @@
-// A text cut at a byte, and its lines.
+// The lines of a text.
 #![tactic(auto)]
 
-ghost use Rattle.std.specs.Prelude.{◌≤◌, ◌<◌, ◌≡◌, length};
-ghost use Rattle.basics.specs.Lists.{leading};
-ghost use Rattle.lines.specs.Posts.{IsLine};
+ghost use Rattle.std.specs.Prelude.{◌≡◌, ◌==◌, [], ◌∷◌, MatchOption, position};
+ghost use Rattle.lines.specs.Lines.{without_cr, lines};
 
-// Where the line that starts at an index ends, its LF or CR LF left out, and where the next one starts.
+// An iterator over the lines of a text, each without its LF or CR LF.
 #[derive(Clone, Copy)]
-pub struct Line {
-    pub end: usize,
-    pub next: usize,
+pub struct Lines<'a> {
+    // what is left of the text
+    pub rest: &'a [u8],
 }
 
-// How many bytes stand before the first of this one: all of them where there is none.
-pub fn find(bytes: &[u8], byte: u8) -> usize
-    ensures value { result ≡ leading byte bytes.now }
-    ensures upper_bound { result ≤ length bytes.now }
-{
-    let mut i = 0;
-    while i < bytes.len() {
-        if bytes[i] == byte {
-            return i;
-        }
-        i += 1;
+impl<'a> Lines<'a> {
+    pub fn new(text: &'a [u8]) -> Lines<'a>
+        ensures { result.rest.now ≡ text.now }
+    {
+        Lines { rest: text }
     }
-    i
 }
 
-// The line that starts at an index of a text.
-pub fn line_at(text: &[u8], at: usize) -> Line
-    requires { at < length text.now }
-    ensures { IsLine text.now at result }
+impl<'a> Iterator for Lines<'a> {
+    ghost use Rattle.std.specs.Iterator.{YieldsFirstRef, item_count};
+    ghost use Rattle.lines.specs.Left.{lines_left};
+
+    type Item = &'a [u8];
+
+    ghost next_gives = { YieldsFirstRef lines_left };
+
+    ghost remaining = { item_count lines_left };
+
+    fn next(&mut self) -> Option<&'a [u8]> {
+        let (line, rest) = first_line(self.rest)?;
+        self.rest = rest;
+        Some(line)
+    }
+}
+
+// The first line of a text, and what stands after it.
+fn first_line(text: &[u8]) -> Option<(&[u8], &[u8])>
+    ensures { MatchOption result (lines text.now ≡ [])
+        (λ found. lines text.now ≡ found.0.now ∷ lines found.1.now) }
 {
-    let end = at + find(&text[at..], b'\n');
-    if end == text.len() {
-        return Line { end, next: end };
+    if text.is_empty() {
+        return None;
     }
-    if end > at {
-        if text[end - 1] == b'\r' {
-            return Line {
-                end: end - 1,
-                next: end + 1,
-            };
-        }
-    }
-    Line { end, next: end + 1 }
+    let Some(end) = line_feed(text) else {
+        // the last line, which lacks its end
+        return Some((text, b""));
+    };
+    Some((stripped(&text[..end]), &text[end + 1..]))
+}
+
+// Where the first LF stands.
+fn line_feed(text: &[u8]) -> Option<usize>
+    ensures { result ≡ position (λ byte. byte == 10) text.now }
+{
+    text.iter().position(|byte| *byte == b'\n')
+}
+
+// What stands before an LF, without the CR that belongs to the line's end.
+fn stripped(line: &[u8]) -> &[u8]
+    ensures { result.now ≡ without_cr line.now }
+{
+    line.strip_suffix(b"\r").unwrap_or(line)
 }

@@ -3,18 +3,24 @@
 use Prim.Native.Nat.{ℕ, zero, suc, ◌<◌}
 use native.Mathlib.Omega.{arith}
 use mathlib.Core.Path.{◌≡◌, refl, sym, ap, ◌∙◌, subst}
-use mathlib.Core.Bool.{Bool, true, false, ◌&&◌, ◌||◌}
+use mathlib.Core.Bool.{Bool, true, false, ◌||◌}
 use mathlib.Core.Option.{Option, none, some}
 use mathlib.Core.List.{List, [], ◌∷◌, ◌++◌}
+use lib.Ieee.{Float}
 use lib.Dec.{ltb}
 use lib.ListN.{length, get_or}
 use borrow.Author.Tests.{ltb-true, ltb-false, lt-ltb}
 use Rattle.basics.proofs.Bools.{and_left, or_left, or_right}
 use Rattle.basics.specs.Lists.{any, tab}
 use Rattle.basics.proofs.Lists.{all_at, get_or-tab, length-tab}
-use Rattle.basics.specs.Refusals.{Test, refuse, fault, code}
-use Rattle.basics.proofs.Refusals.{unrefused, fault-right, fault_stop, code-none, code-some}
-use Rattle.geometry.specs.Position.{dimension}
+use Rattle.basics.specs.Refusals.{Test, refuse, fault}
+use Rattle.std.proofs.Common.{Result, Err, ap₂, rules}
+use Rattle.basics.specs.declared.Refusal.{Refusal}
+use Rattle.basics.specs.declared.Refusal.TheVariants as refusal
+use Rattle.basics.specs.Answers.{refusal_number}
+use Rattle.basics.proofs.Answers.{Raised, raised_answer}
+use Rattle.basics.proofs.Refusals.{unrefused, fault-right, fault_stop}
+use Rattle.geometry.specs.Axes.{dimension}
 use Rattle.grid.specs.Divisions.{counts}
 use Rattle.grid.specs.Containers.{containers}
 use Rattle.grid_search.specs.declared.GridSearch.{GridSearch}
@@ -22,15 +28,23 @@ use Rattle.table.specs.declared.Row.{Row}
 use Rattle.table.specs.Library.{Library, row_at, rows_of, table, space, too_long}
 use Rattle.rows.specs.Damage.{good_row, library_tests}
 use Rattle.rows.specs.Posts.{Checked}
-use Rattle.rows.proofs.Check.{Whole, whole, not-long, numbered, checked, divided}
+use Rattle.rows.proofs.Check.{Whole, whole, not-long, checked, divided}
 use Rattle.listing.specs.declared.Place.{Place}
 use Rattle.listing.specs.declared.Filter.{Filter}
-use Rattle.listing.specs.declared.Listed.{Listed}
-use Rattle.listing.specs.declared.Listed.TheVariants.{Refused}
-use Rattle.listing.specs.Place.{Asked, asked, is_on, unfit, unfit_filter, wrong_length, place_limits, filter_limits, pinched, place_tests}
+use Rattle.listing.specs.Place.{Asked, unknown, asked_of, asked, is_on, unfit, unfit_filter, wrong_length, place_tests}
 use Rattle.listing.specs.Listing.{ids_of, occupied, ids_on, on_tests, listing_tests, listing, Lists}
 use Rattle.basics.specs.Filled.{fill}
-use Rattle.listing.specs.Posts.{Known, Out}
+use Rattle.listing.specs.Posts.{Stands, Known, Out}
+
+-- ---- rows in use
+
+pub occupied-used : (l : Library) → ltb 0 l.used ≡ occupied (table l)
+unfolding table rows_of occupied
+occupied-used l = go l.used (row_at l)
+  where
+    go : (n : ℕ) (f : ℕ → Row) → ltb 0 n ≡ occupied (tab n f)
+    go zero f = refl
+    go (suc n) f = lt-ltb 0 (suc n) (omega arith)
 
 module _ (s : GridSearch) (l : Library) (p : Asked) (f : Filter) (list : List ℕ) where
   abbrev ours : List Test
@@ -39,56 +53,42 @@ module _ (s : GridSearch) (l : Library) (p : Asked) (f : Filter) (list : List �
   abbrev last : List Test
   last = refuse 14 (ltb (length list) (length (ids_on s l p f))) ∷ []
 
-  stopped : (n : ℕ) → fault (listing_tests s l p f (length list)) ≡ some n → Lists (listing s l p f list) (Refused n) list
+  -- turned away by a test, with the list as it was
+  stopped : (e : Refusal) {r : Result ℕ Refusal} → some (refusal_number e) ≡ fault (listing_tests s l p f (length list)) → Raised e r → Lists (listing s l p f list) r list
   unfolding listing fill
-  stopped n e = record { answers = rw e; list-is = rw e }
+  stopped e {r} is raised = record { answers = rw (← is) (raised_answer (λ n. n) e r raised); list-is = rw (← is) }
 
-  pub bad-library : (n : ℕ) → n ≡ code (fault (library_tests s l)) → (n ≡ 0 → ⊥) → Lists (listing s l p f list) (Refused n) list
+  pub turned_away : (e : Refusal) {r : Result ℕ Refusal} → some (refusal_number e) ≡ fault (library_tests s l) → Raised e r → Lists (listing s l p f list) r list
   unfolding listing_tests on_tests
-  bad-library n e ne = stopped n (fault_stop (library_tests s l ++ ours) last n (fault_stop (library_tests s l) ours n (code-some (fault (library_tests s l)) n e ne)))
+  turned_away e is raised =
+      stopped e (sym (fault_stop (library_tests s l ++ ours) last (refusal_number e) (fault_stop (library_tests s l) ours (refusal_number e) (sym is)))) raised
 
   module _ (ok : fault (library_tests s l) ≡ none) where
-    pub bad-place : (n : ℕ) → n ≡ code (fault (place_tests s p f (occupied (table l)))) → (n ≡ 0 → ⊥) → Lists (listing s l p f list) (Refused n) list
+    pub misplaced : (e : Refusal) {r : Result ℕ Refusal} → some (refusal_number e) ≡ fault (place_tests s p f (ltb 0 l.used)) → Raised e r → Lists (listing s l p f list) r list
     unfolding listing_tests on_tests
-    bad-place n e ne = stopped n (fault_stop (library_tests s l ++ ours) last n (fault-right (library_tests s l) ours ok ∙ code-some (fault ours) n e ne))
+    misplaced e is raised =
+        let here : fault ours ≡ some (refusal_number e) = ap (λ (b : Bool). fault (place_tests s p f b)) (sym (occupied-used l)) ∙ sym is in
+        stopped e (sym (fault_stop (library_tests s l ++ ours) last (refusal_number e) (fault-right (library_tests s l) ours ok ∙ here))) raised
 
     -- only 14 is left
-    pub listed_out : fault (place_tests s p f (occupied (table l))) ≡ none → (r : Listed) (after : List ℕ) → Out (ids_on s l p f) list r after → Lists (listing s l p f list) r after
-    unfolding listing listing_tests on_tests
-    listed_out good r after o =
+    pub listed_out : none ≡ fault (place_tests s p f (ltb 0 l.used)) → {r : Result ℕ Refusal} {after : List ℕ} → Out (ids_of (is_on s p f) (table l)) list r after → Lists (listing s l p f list) r after
+    unfolding listing listing_tests on_tests ids_on
+    listed_out is {r} {after} o =
+        let good : fault ours ≡ none = ap (λ (b : Bool). fault (place_tests s p f b)) (sym (occupied-used l)) ∙ sym is in
         let e : fault (listing_tests s l p f (length list)) ≡ fault last =
         fault-right (library_tests s l ++ ours) last (fault-right (library_tests s l) ours ok ∙ good) in
         record { answers = o.answers ∙ ap (λ (q : Option ℕ). (fill q (ids_on s l p f) list).answer) (sym e); list-is = o.list-is ∙ ap (λ (q : Option ℕ). (fill q (ids_on s l p f) list).list) (sym e) }
 
--- ---- the tests of a place, in the code's order
-
-pub place-numbered : (s : GridSearch) (p : Asked) (f : Filter) (rows : Bool) → 0 ≡ code (fault (place_tests s p f rows)) → fault (place_tests s p f rows) ≡ none
-unfolding place_tests
-place-numbered s p f rows e = code-none (place_tests s p f rows) ((λ h. omega arith), ((λ h. omega arith), ((λ h. omega arith), ((λ h. omega arith), tt)))) e
+-- ---- the tests of a place
 
 module _ (s : GridSearch) (p : Asked) (f : Filter) (rows : Bool) where
-  pub place_16 : (unfit s.ndim p || unfit_filter s.ndim f) ≡ true → 16 ≡ code (fault (place_tests s p f rows))
-  unfolding place_tests fault code
+  pub place_16 : (unfit s.ndim p || unfit_filter s.ndim f) ≡ true → some 16 ≡ fault (place_tests s p f rows)
+  unfolding place_tests fault
   place_16 e = rw e
 
-  module _ (e : (unfit s.ndim p || unfit_filter s.ndim f) ≡ false) where
-    pub place_2 : wrong_length s.ndim p ≡ true → 2 ≡ code (fault (place_tests s p f rows))
-    unfolding place_tests fault code
-    place_2 g = rw (e, g)
-
-    module _ (g : wrong_length s.ndim p ≡ false) where
-      pub place_3 : (place_limits p && filter_limits f) ≡ false → 3 ≡ code (fault (place_tests s p f rows))
-      unfolding place_tests fault code
-      place_3 h = rw (e, g, h)
-
-      module _ (h : (place_limits p && filter_limits f) ≡ true) where
-        pub place_15 : (rows && pinched p) ≡ true → 15 ≡ code (fault (place_tests s p f rows))
-        unfolding place_tests fault code
-        place_15 k = rw (e, g, h, k)
-
-        pub place_0 : (rows && pinched p) ≡ false → 0 ≡ code (fault (place_tests s p f rows))
-        unfolding place_tests fault code
-        place_0 k = rw (e, g, h, k)
+  pub place_2 : (unfit s.ndim p || unfit_filter s.ndim f) ≡ false → wrong_length s.ndim p ≡ true → some 2 ≡ fault (place_tests s p f rows)
+  unfolding place_tests fault
+  place_2 e g = rw (e, g)
 
 -- what a place that passes is known by
 pub record Fit (s : GridSearch) (p : Asked) (f : Filter) : Type 0 where
@@ -101,16 +101,6 @@ unfolding place_tests
 fit s p f rows e =
     let u = unrefused (place_tests s p f rows) e in
     record { place = or_left (unfit s.ndim p) (unfit_filter s.ndim f) u.0; filter = or_right (unfit s.ndim p) (unfit_filter s.ndim f) u.0; lengths = u.1.0 }
-
--- ---- rows in use
-
-pub occupied-used : (l : Library) → ltb 0 l.used ≡ occupied (table l)
-unfolding table rows_of occupied
-occupied-used l = go l.used (row_at l)
-  where
-    go : (n : ℕ) (f : ℕ → Row) → ltb 0 n ≡ occupied (tab n f)
-    go zero f = refl
-    go (suc n) f = lt-ltb 0 (suc n) (omega arith)
 
 -- ---- what a library and a place that pass are known by
 
@@ -135,46 +125,41 @@ module _ (s : GridSearch) (l : Library) (p : Place) (f : Filter) where
 
 -- ---- the call as the code makes it
 
-pub passes-library : (s : GridSearch) (l : Library) {damage : ℕ} → damage ≡ code (fault (library_tests s l)) → damage ≡ 0 → fault (library_tests s l) ≡ none
-passes-library s l is-damage sound = numbered s l (sym sound ∙ is-damage)
-
 -- the library passes
 module _ (s : GridSearch) (l : Library) (ok : fault (library_tests s l) ≡ none) where
   pub axes : dimension s.ndim ≡ true
   axes = (divided s (whole s l ok).sheet).axes
 
   -- and the place
-  module _ (p : Asked) (f : Filter) {refusal : ℕ} (is-refusal : refusal ≡ code (fault (place_tests s p f (ltb 0 l.used)))) (placed : refusal ≡ 0) where
-    passes-place : fault (place_tests s p f (ltb 0 l.used)) ≡ none
-    passes-place = place-numbered s p f (ltb 0 l.used) (sym placed ∙ is-refusal)
+  pub walks : (on : Place) (f : Filter) → none ≡ fault (place_tests s (asked s.ndim on) f (ltb 0 l.used)) → Known s l on f
+  walks on f placed = known s l on f ok (fit s (asked s.ndim on) f (ltb 0 l.used) (sym placed))
 
-    pub walks : (on : Place) → asked s.ndim on ≡ p → Known s l on f
-    walks on same = known s l on f ok (subst (λ (q : Asked). Fit s q f) (sym same) (fit s p f (ltb 0 l.used) passes-place))
+-- ---- the place of a number
 
-module _ (s : GridSearch) (l : Library) (p : Asked) (f : Filter) (list : List ℕ) where
-  -- the listing of a place that is the one asked for
-  pub as_asked : {q : Asked} → q ≡ p → {r : Listed} {after : List ℕ} → Lists (listing s l q f list) r after → Lists (listing s l p f list) r after
-  as_asked e {r} {after} o = subst (λ (x : Asked). Lists (listing s l x f list) r after) e o
+straight : (e : Refusal) → Raised {A = ℕ} e (Err e)
+straight e = (search rules, refl)
 
-  pub turned_away : {damage : ℕ} → damage ≡ code (fault (library_tests s l)) → (damage ≡ 0 → ⊥) → Lists (listing s l p f list) (Refused damage) list
-  turned_away {damage} is-damage ne = bad-library s l p f list damage is-damage ne
+module _ (s : GridSearch) (l : Library) (f : Filter) (list : List ℕ) (ok : fault (library_tests s l) ≡ none) (p : ℕ) (a b : List Float) (v : Float) where
+  -- the number names none
+  pub unknown_place : asked_of p a b v ≡ unknown → Lists (listing s l (asked_of p a b v) f list) (Err refusal.Unfit) list
+  unfolding unfit
+  unknown_place e = misplaced s l (asked_of p a b v) f list ok refusal.Unfit (place_16 s (asked_of p a b v) f (ltb 0 l.used) (rw e refl)) (straight refusal.Unfit)
 
-  module _ (ok : fault (library_tests s l) ≡ none) where
-    module _ {refusal : ℕ} (is-refusal : refusal ≡ code (fault (place_tests s p f (ltb 0 l.used)))) where
-      pub misplaced : (refusal ≡ 0 → ⊥) → Lists (listing s l p f list) (Refused refusal) list
-      misplaced ne = bad-place s l p f list ok refusal (is-refusal ∙ ap (λ (b : Bool). code (fault (place_tests s p f b))) (occupied-used l)) ne
+  module _ {on : Place} (n : Stands p a b v on) {u g : Bool} (is-unfit : u ≡ unfit s.ndim (asked s.ndim on)) (is-unfit_filter : g ≡ unfit_filter s.ndim f) where
+    there : (unfit s.ndim (asked_of p a b v) || unfit_filter s.ndim f) ≡ (u || g)
+    there = ap₂ (λ (x y : Bool). x || y) (sym (is-unfit ∙ n.alike s.ndim)) (sym is-unfit_filter)
 
-      pub gives : refusal ≡ 0 → (on : Place) → asked s.ndim on ≡ p → {r : Listed} {after : List ℕ}
-          → Out (ids_of (is_on s (asked s.ndim on) f) (table l)) list r after → Lists (listing s l p f list) r after
-      unfolding ids_on
-      gives placed on same {r} {after} o =
-          listed_out s l p f list ok
-          (ap (λ (b : Bool). fault (place_tests s p f b)) (sym (occupied-used l)) ∙ passes-place s l ok p f is-refusal placed) r after
-          (subst (λ (q : Asked). Out (ids_of (is_on s q f) (table l)) list r after) same o)
+    -- 16
+    pub unfit_place : (u || g) ≡ true → Lists (listing s l (asked_of p a b v) f list) (Err refusal.Unfit) list
+    unfit_place e = misplaced s l (asked_of p a b v) f list ok refusal.Unfit (place_16 s (asked_of p a b v) f (ltb 0 l.used) (there ∙ e)) (straight refusal.Unfit)
 
-    -- turned away by 16 or 2, before a place is made
-    pub not_there : (unfit s.ndim p || unfit_filter s.ndim f) ≡ true → Lists (listing s l p f list) (Refused 16) list
-    not_there e = misplaced (place_16 s p f (ltb 0 l.used) e) (λ q. omega arith)
+    -- 2
+    pub other_length : (u || g) ≡ false → {w : Bool} → w ≡ wrong_length s.ndim (asked_of p a b v) → w ≡ true → Lists (listing s l (asked_of p a b v) f list) (Err refusal.Length) list
+    other_length e is-wrong t =
+        misplaced s l (asked_of p a b v) f list ok refusal.Length (place_2 s (asked_of p a b v) f (ltb 0 l.used) (there ∙ e) (sym is-wrong ∙ t)) (straight refusal.Length)
 
-    pub other_length : ((unfit s.ndim p || unfit_filter s.ndim f) ≡ false) × (wrong_length s.ndim p ≡ true) → Lists (listing s l p f list) (Refused 2) list
-    other_length h = misplaced (place_2 s p f (ltb 0 l.used) h.0 h.1) (λ q. omega arith)
+  module _ {on : Place} (n : Stands p a b v on) where
+    -- the place that was made is the one named
+    pub as_named : {w : Bool} → w ≡ wrong_length s.ndim (asked_of p a b v) → w ≡ false → {r : Result ℕ Refusal} {after : List ℕ}
+        → Lists (listing s l (asked s.ndim on) f list) r after → Lists (listing s l (asked_of p a b v) f list) r after
+    as_named is-wrong t {r} {after} o = subst (λ (q : Asked). Lists (listing s l q f list) r after) (n.same s.ndim (axes s l ok) (sym is-wrong ∙ t)) o

@@ -4,16 +4,17 @@ use Prim.Native.Nat.{ℕ, zero, suc, ◌+◌, ◌-◌, ◌≤◌, ◌<◌}
 use native.Mathlib.Numerals.{add-one}
 use native.Mathlib.Omega.{arith}
 use mathlib.Core.Path.{◌≡◌, refl, sym, ap, ◌∙◌, subst}
-use mathlib.Core.Logic.{◌⊎◌, inl, inr}
 use mathlib.Core.List.{List, [], ◌∷◌}
 use lib.Dec.{eqb, ltb}
-use lib.ListN.{length, get_or, take, drop, length-take, drop_of_length-le}
-use lib.Seq.{get_or-drop, get_or-take, drop-drop, slice-cons, length-slice}
+use lib.ListN.{length, get_or, take, drop, drop_of_length-le}
+use lib.Seq.{get_or-drop, get_or-take, drop-cons, drop-drop, slice-cons, length-slice}
+use denote.Ref.{Bor}
+use Rattle.std.specs.Prelude.{Option, Some, None}
 use borrow.Author.Tests.{eqb-true, ltb-true, ltb-false}
 use Rattle.basics.proofs.Bools.{by_test}
 use Rattle.table.specs.Rows.{run}
 use Rattle.table.proofs.Runs.{run-one}
-use Rattle.listing.specs.Posts.{end_from, Runs, CountedFrom, Counted}
+use Rattle.listing.specs.Posts.{end_from, Runs, CountedFrom}
 
 -- ---- a run of equal keys
 
@@ -62,41 +63,31 @@ module _ (keys : List ℕ) (used first : ℕ) (k : used ≤ length keys) (h : fi
 
   -- ---- counts
 
-  module _ {counts : List ℕ} {places place : ℕ} (c : CountedFrom keys used counts places place first) where
-    front_runs : place < places → Runs (drop place (take places counts)) (drop first (take used keys))
-        → (get_or counts place 0 ≡ suc behind) × Runs (drop (suc place) (take places counts)) (drop behind (drop (suc first) (take used keys)))
-    front_runs p r =
-        subst (λ (ks : List ℕ). Runs (get_or counts place 0 ∷ drop (suc place) (take places counts)) ks) (slice-cons first used keys 0 h k)
-        (subst (λ (cs : List ℕ). Runs cs (drop first (take used keys))) (slice-cons place places counts 0 p c.room) r)
-
+  module _ (counts : List ℕ) (place : ℕ) (r : Runs (drop place counts) (drop first (take used keys))) where
     -- a row has a container, which has a count
-    none_left : (place < places → ⊥) → Runs (drop place (take places counts)) (drop first (take used keys)) → ⊥
-    none_left p r =
-        let short : length (take places counts) ≤ place = omega (arith, length-take places counts, c.room) in
-        let e : drop first (take used keys) ≡ [] = subst (λ (cs : List ℕ). Runs cs (drop first (take used keys))) (drop_of_length-le (take places counts) short) r in
-        omega (arith, ap length e, length-slice first used keys k)
+    pub count-inside : place < length counts
+    count-inside =
+        by_test (ltb place (length counts)) (λ t. ltb-true place (length counts) t)
+        (λ t.
+        let e : drop first (take used keys) ≡ [] = rw (drop_of_length-le counts {i = place} (ltb-false place (length counts) t)) at r in
+        absurd (omega (arith, ap length e, length-slice first used keys k)))
 
-    pub count_end : place < places → first + get_or counts place 0 ≡ end_from keys used first
-    count_end p = go c.rest
-      where
-        go : (places ≡ 0) ⊎ Runs (drop place (take places counts)) (drop first (take used keys)) → first + get_or counts place 0 ≡ end_from keys used first
-        go (inl e) = absurd (omega arith)
-        go (inr r) = omega (arith, (front_runs p r).0, end_behind)
+    front_runs : (get_or counts place 0 ≡ suc behind) × Runs (drop (suc place) counts) (drop behind (drop (suc first) (take used keys)))
+    front_runs = rw (drop-cons counts place 0 count-inside, slice-cons first used keys 0 h k) at r
 
-    pub counted_next : {end : ℕ} → end ≡ end_from keys used first → CountedFrom keys used counts places (place + 1) end
-    counted_next {end} is-end = record { room = c.room; rest = go c.rest }
-      where
-        go : (places ≡ 0) ⊎ Runs (drop place (take places counts)) (drop first (take used keys)) → (places ≡ 0) ⊎ Runs (drop (place + 1) (take places counts)) (drop end (take used keys))
-        go (inl e) = inl e
-        go (inr r) =
-            by_test (ltb place places)
-            (λ t.
-            let e : drop behind (drop (suc first) (take used keys)) ≡ drop end (take used keys) =
-            drop-drop behind (suc first) (take used keys) ∙ ap (λ (n : ℕ). drop n (take used keys)) (sym (is-end ∙ end_behind)) in
-            inr (subst (λ (n : ℕ). Runs (drop n (take places counts)) (drop end (take used keys))) (sym (add-one place))
-            (subst (λ (ks : List ℕ). Runs (drop (suc place) (take places counts)) ks) e (front_runs (ltb-true place places t) r).1)))
-            (λ t. absurd (none_left (λ p. omega (arith, ltb-false place places t)) r))
+    pub count_end : first + get_or counts place 0 ≡ end_from keys used first
+    count_end = omega (arith, front_runs.0, end_behind)
 
--- no counts are at hand
-pub uncounted : (keys : List ℕ) (used : ℕ) (counts : List ℕ) → Counted keys used counts 0
-uncounted keys used counts = record { room = omega arith; rest = inl refl }
+    next_runs : {end : ℕ} → end ≡ end_from keys used first → Runs (drop (place + 1) counts) (drop end (take used keys))
+    next_runs {end} is-end =
+        let e : drop behind (drop (suc first) (take used keys)) ≡ drop end (take used keys) =
+        drop-drop behind (suc first) (take used keys) ∙ ap (λ (n : ℕ). drop n (take used keys)) (sym (is-end ∙ end_behind)) in
+        subst (λ (n : ℕ). Runs (drop n counts) (drop end (take used keys))) (sym (add-one place)) (subst (λ (ks : List ℕ). Runs (drop (suc place) counts) ks) e front_runs.1)
+
+  pub counted_next : (counts : Option (Bor (List ℕ))) (place : ℕ) {end : ℕ} → CountedFrom keys used counts place first → end ≡ end_from keys used first → CountedFrom keys used counts (place + 1) end
+  counted_next (Some counts) place c is-end = next_runs counts.now place c is-end
+  counted_next None place c is-end = tt
+
+  -- by the keys
+  pub keys_end : first + run (get_or (take used keys) first 0) (drop first (take used keys)) ≡ end_from keys used first
+  keys_end = ap (λ (j : ℕ). first + run j (drop first (take used keys))) (get_or-take used keys first 0 h)

@@ -1,38 +1,37 @@
 -- Places by number and by case: what each test says of them.
 -- Assumes nothing.
-use Prim.Native.Nat.{ℕ, zero, suc, ◌≤◌, ◌<◌}
+use Prim.Native.Nat.{ℕ, ◌<◌}
 use native.Mathlib.Omega.{arith}
 use mathlib.Core.Path.{◌≡◌, refl, sym, ap, ap₂, ◌∙◌}
 use mathlib.Core.Logic.{◌⊎◌, inl, inr}
-use mathlib.Core.Bool.{Bool, true, false, not, ◌&&◌, ◌||◌}
+use mathlib.Core.Bool.{Bool, true, false, not, ◌&&◌}
 use mathlib.Core.List.{List}
-use lib.Dec.{T, eqb, leb, ltb}
+use lib.Dec.{T, eqb}
 use lib.ListN.{length}
 use lib.Ieee.{Float, inf, binary64, fits, lt, eq, le}
-use borrow.Author.Tests.{eqb-true, eq-eqb, ne_eqb, not-true, not-false, leb-true, leb-false, le-leb, ltb-false, le-ltb}
-use Rattle.basics.proofs.Bools.{by_test, clash, and_left, and_right, or_left, or_right}
+use borrow.Author.Tests.{eqb-true, eq-eqb, not-false}
+use Rattle.basics.proofs.Bools.{by_test, clash, and_left, and_right}
 use Rattle.basics.specs.Lists.{zip_with}
 use Rattle.floats.specs.Rounded.{◌⊕◌, ◌⊖◌}
 use Rattle.floats.specs.Tests.{within}
 use Rattle.floats.proofs.Order.{eq-le, eq_turn, le_join}
 use Rattle.floats.proofs.Cases.{zero_of}
 use Rattle.floats.proofs.Choices.{abs-zero, abs-other}
-use Rattle.floats.specs.Sqrt.{sqrt_of}
 use Rattle.geometry.specs.declared.Position.{Position}
-use Rattle.geometry.specs.Position.{coords, position_of, axis_of, dimension}
+use Rattle.geometry.specs.Position.{coords, position_of, axis_of}
+use Rattle.geometry.specs.Axes.{dimension}
 use Rattle.geometry.specs.Distances.{point_square, line_square, point_point, point_line, point_circle, point_cylinder}
 use Rattle.geometry.proofs.Axes.{for_axes, coords-length, axis_entry, coords_of}
 use Rattle.grid.specs.Divisions.{counts}
 use Rattle.grid.specs.Containers.{pivots, centre}
 use Rattle.grid_search.specs.declared.GridSearch.{GridSearch}
-use Rattle.windows.specs.declared.Distance.TheVariants.{Root, RootLess}
+use Rattle.std.specs.Prelude.{Option, Some, None}
 use Rattle.windows.specs.declared.Window.{Window}
 use Rattle.windows.specs.Window.{told_by, lies}
 use Rattle.windows.proofs.Tellings.{magnitude_lies, unbounded}
 use Rattle.listing.specs.declared.Place.{Place}
 use Rattle.listing.specs.declared.Place.TheVariants as place
-use Rattle.listing.specs.declared.Filter.{Filter}
-use Rattle.listing.specs.Place.{Asked, line, circle, cylinder, plane, unknown, asked_of, asked, place_distance, centre_of, container_near, unfit, unfit_filter, wrong_length}
+use Rattle.listing.specs.Place.{Asked, line, circle, cylinder, plane, asked_of, asked, place_distance, centre_of, container_near, unfit, wrong_length}
 use Rattle.listing.specs.Posts.{Stands}
 use Rattle.listing.specs.Ready.{Even}
 
@@ -63,30 +62,6 @@ module _ (p : ℕ) (a b : List Float) (v : Float) where
   unfolding asked_of
   is_xz e = rw e
 
-  pub is-unknown : 5 < p → asked_of p a b v ≡ unknown
-  unfolding asked_of
-  is-unknown h = simp (ne_eqb p 0 (λ e. omega arith), ne_eqb p 1 (λ e. omega arith), ne_eqb p 2 (λ e. omega arith), ne_eqb p 3 (λ e. omega arith), ne_eqb p 4 (λ e. omega arith), ne_eqb p 5 (λ e. omega arith))
-
--- a number of a plane
-pub plane-number : (p : ℕ) → (p ≡ 0 → ⊥) → (p ≡ 1 → ⊥) → (p ≡ 2 → ⊥) → p ≤ 5 → (p ≡ 3) ⊎ ((p ≡ 4) ⊎ (p ≡ 5))
-plane-number zero f g h le = absurd (f refl)
-plane-number (suc zero) f g h le = absurd (g refl)
-plane-number (suc (suc zero)) f g h le = absurd (h refl)
-plane-number (suc (suc (suc zero))) f g h le = inl refl
-plane-number (suc (suc (suc (suc zero)))) f g h le = inr (inl refl)
-plane-number (suc (suc (suc (suc (suc zero))))) f g h le = inr (inr refl)
-plane-number (suc (suc (suc (suc (suc (suc p)))))) f g h le = absurd (omega arith)
-
--- what holds of the three planes holds of a place that is none of the others
-module _ (P : Asked → Type 0) (p : ℕ) (a b : List Float) (v : Float) where
-  pub of_planes : ((k : ℕ) → P (plane k v)) → (p ≡ 0 → ⊥) → (p ≡ 1 → ⊥) → (p ≡ 2 → ⊥) → p ≤ 5 → P (asked_of p a b v)
-  of_planes all f g h le = go (plane-number p f g h le)
-    where
-      go : (p ≡ 3) ⊎ ((p ≡ 4) ⊎ (p ≡ 5)) → P (asked_of p a b v)
-      go (inl e) = rw (is_xy p a b v e) (all 2)
-      go (inr (inl e)) = rw (is_yz p a b v e) (all 0)
-      go (inr (inr e)) = rw (is_xz p a b v e) (all 1)
-
 -- ---- 16: where a cylinder or a plane fits, there are three axes
 
 pub three_axes : (n : ℕ) → not (eqb n 3) ≡ false → n ≡ 3
@@ -111,79 +86,49 @@ module _ (p : ℕ) (a b : List Float) (v : Float) where
   pub made-line : p ≡ 0 → (x y : Position) → x ≡ position_of a → y ≡ position_of b → Stands p a b v (place.Line x y)
   unfolding asked unfit
   made-line e x y s t = record {
-    same = λ n d h right. let l = lengths n p a b v (inl e) right in ap₂ line (coords_of n a x d l.0 s) (coords_of n b y d l.1 t) ∙ sym (is-line p a b v e);
-    alike = λ n h. ap (unfit n) (sym (is-line p a b v e));
+    same = λ n d right. let l = lengths n p a b v (inl e) right in ap₂ line (coords_of n a x d l.0 s) (coords_of n b y d l.1 t) ∙ sym (is-line p a b v e);
+    alike = λ n. ap (unfit n) (sym (is-line p a b v e));
   }
 
   pub made-circle : p ≡ 1 → (x : Position) → x ≡ position_of a → Stands p a b v (place.Circle x v)
   unfolding asked unfit
   made-circle e x s = record {
-    same = λ n d h right. ap (λ (l : List Float). circle l v) (coords_of n a x d (length-centre n p a b v e right) s) ∙ sym (is-circle p a b v e);
-    alike = λ n h. ap (unfit n) (sym (is-circle p a b v e));
+    same = λ n d right. ap (λ (l : List Float). circle l v) (coords_of n a x d (length-centre n p a b v e right) s) ∙ sym (is-circle p a b v e);
+    alike = λ n. ap (unfit n) (sym (is-circle p a b v e));
   }
 
   pub made-cylinder : p ≡ 2 → (x y : Position) → x ≡ position_of a → y ≡ position_of b → Stands p a b v (place.Cylinder x y v)
   unfolding asked unfit
   made-cylinder e x y s t = record {
-    same = λ n d h right. let l = lengths n p a b v (inr e) right in ap₂ (λ (l m : List Float). cylinder l m v) (coords_of n a x d l.0 s) (coords_of n b y d l.1 t) ∙ sym (is-cylinder p a b v e);
-    alike = λ n h. ap (unfit n) (sym (is-cylinder p a b v e));
+    same = λ n d right. let l = lengths n p a b v (inr e) right in ap₂ (λ (l m : List Float). cylinder l m v) (coords_of n a x d l.0 s) (coords_of n b y d l.1 t) ∙ sym (is-cylinder p a b v e);
+    alike = λ n. ap (unfit n) (sym (is-cylinder p a b v e));
   }
 
   -- a plane has no positions, so that it is the one named whatever the slices
-  plane-made : (on : Place) → ((n : ℕ) → p ≤ 5 → asked n on ≡ asked_of p a b v) → Stands p a b v on
-  plane-made on e = record { same = λ n d h right. e n h; alike = λ n h. ap (unfit n) (e n h) }
+  plane-made : (on : Place) → ((n : ℕ) → asked n on ≡ asked_of p a b v) → Stands p a b v on
+  plane-made on e = record { same = λ n d right. e n; alike = λ n. ap (unfit n) (e n) }
 
   pub made_xy : p ≡ 3 → Stands p a b v (place.PlaneXY v)
   unfolding asked
-  made_xy e = plane-made (place.PlaneXY v) (λ n h. sym (is_xy p a b v e))
+  made_xy e = plane-made (place.PlaneXY v) (λ n. sym (is_xy p a b v e))
 
   pub made_yz : p ≡ 4 → Stands p a b v (place.PlaneYZ v)
   unfolding asked
-  made_yz e = plane-made (place.PlaneYZ v) (λ n h. sym (is_yz p a b v e))
+  made_yz e = plane-made (place.PlaneYZ v) (λ n. sym (is_yz p a b v e))
 
-  pub made_xz : (p ≡ 0 → ⊥) → (p ≡ 1 → ⊥) → (p ≡ 2 → ⊥) → (p ≡ 3 → ⊥) → (p ≡ 4 → ⊥) → Stands p a b v (place.PlaneXZ v)
+  pub made_xz : p ≡ 5 → Stands p a b v (place.PlaneXZ v)
   unfolding asked
-  made_xz e₀ e₁ e₂ e₃ e₄ = plane-made (place.PlaneXZ v) (λ n h. go n (plane-number p e₀ e₁ e₂ h))
-    where
-      go : (n : ℕ) → (p ≡ 3) ⊎ ((p ≡ 4) ⊎ (p ≡ 5)) → asked n (place.PlaneXZ v) ≡ asked_of p a b v
-      go n (inl e) = absurd (e₃ e)
-      go n (inr (inl e)) = absurd (e₄ e)
-      go n (inr (inr e)) = sym (is_xz p a b v e)
+  made_xz e = plane-made (place.PlaneXZ v) (λ n. sym (is_xz p a b v e))
 
 -- a place that holds positions has their right length in every dimension
-pub right-lengths : (n : ℕ) (on : Place) → dimension n ≡ true → wrong_length n (asked n on) ≡ false
+pub right_lengths : (n : ℕ) (on : Place) → dimension n ≡ true → wrong_length n (asked n on) ≡ false
 unfolding asked wrong_length
-right-lengths n (place.Line a b) d = rw (coords-length n a d, coords-length n b d, eq-eqb n n refl)
-right-lengths n (place.Circle a r) d = rw (coords-length n a d, eq-eqb n n refl)
-right-lengths n (place.Cylinder a b r) d = rw (coords-length n a d, coords-length n b d, eq-eqb n n refl)
-right-lengths n (place.PlaneXY z) d = refl
-right-lengths n (place.PlaneYZ x) d = refl
-right-lengths n (place.PlaneXZ y) d = refl
-
--- ---- the tests of the call by number, as the code joins them
-
-module _ {p : ℕ} {a b : List Float} {v : Float} {on : Place} (s : Stands p a b v on) (n : ℕ) where
-  -- the place is the one that was asked for
-  pub one_place : {w : Bool} → dimension n ≡ true → w ≡ wrong_length n (asked_of p a b v) → (leb p 5 && not w) ≡ true → asked n on ≡ asked_of p a b v
-  one_place {w} d g t = s.same n d (leb-true p 5 (and_left (leb p 5) (not w) t)) (sym g ∙ not-true w (and_right (leb p 5) (not w) t))
-
-  module _ (f : Filter) {u g : Bool} (e : u ≡ unfit n (asked n on)) (k : g ≡ unfit_filter n f) where
-    -- 16
-    pub no_place : (ltb 5 p || (u || g)) ≡ true → (unfit n (asked_of p a b v) || unfit_filter n f) ≡ true
-    unfolding unfit
-    no_place t =
-        by_test (leb p 5)
-        (λ h. ap₂ (λ (x y : Bool). x || y) (sym (e ∙ s.alike n (leb-true p 5 h))) (sym k) ∙ rw (le-ltb 5 p (leb-true p 5 h)) at t)
-        (λ h. rw (is-unknown p a b v (leb-false p 5 h)))
-
-    -- 2, where no place was made and 16 does not apply
-    pub wrong_length_lem : {w : Bool} → w ≡ wrong_length n (asked_of p a b v) → (ltb 5 p || (u || g)) ≡ false → (leb p 5 && not w) ≡ false
-        → ((unfit n (asked_of p a b v) || unfit_filter n f) ≡ false) × (wrong_length n (asked_of p a b v) ≡ true)
-    wrong_length_lem {w} i t m =
-        let h : p ≤ 5 = ltb-false 5 p (or_left (ltb 5 p) (u || g) t) in (
-          ap₂ (λ (x y : Bool). x || y) (sym (e ∙ s.alike n h)) (sym k) ∙ or_right (ltb 5 p) (u || g) t,
-          sym i ∙ not-false w (rw (le-leb p 5 h) at m),
-        )
+right_lengths n (place.Line a b) d = rw (coords-length n a d, coords-length n b d, eq-eqb n n refl)
+right_lengths n (place.Circle a r) d = rw (coords-length n a d, eq-eqb n n refl)
+right_lengths n (place.Cylinder a b r) d = rw (coords-length n a d, coords-length n b d, eq-eqb n n refl)
+right_lengths n (place.PlaneXY z) d = refl
+right_lengths n (place.PlaneYZ x) d = refl
+right_lengths n (place.PlaneXZ y) d = refl
 
 -- ---- distances
 
@@ -200,18 +145,18 @@ not-below x t f h =
     by_test (eq x zero_of) (λ e. same-le x zero_of t e ∙ ap (λ (v : Float). le v t) (abs-zero x f e)) (λ e. ap (λ (v : Float). le v t) (abs-other x h e))
 
 -- by the square of the distance from a line or a centre
-module _ (n : ℕ) (a b x : Position) {q : Float} where
-  pub line-told : q ≡ line_square (coords n a) (coords n b) (coords n x) → told_by Root q ≡ place_distance (asked n (place.Line a b)) (coords n x)
+module _ (n : ℕ) (a b x : Position) {d : Option Float} {q : Float} where
+  pub line-told : d ≡ None → q ≡ line_square (coords n a) (coords n b) (coords n x) → told_by d q ≡ place_distance (asked n (place.Line a b)) (coords n x)
   unfolding asked place_distance told_by point_line
-  line-told e = ap sqrt_of e
+  line-told g e = rw (g, e)
 
-  pub cylinder-told : (r : Float) → q ≡ line_square (coords n a) (coords n b) (coords n x) → told_by (RootLess r) q ≡ place_distance (asked n (place.Cylinder a b r)) (coords n x)
+  pub cylinder-told : (r : Float) → d ≡ Some r → q ≡ line_square (coords n a) (coords n b) (coords n x) → told_by d q ≡ place_distance (asked n (place.Cylinder a b r)) (coords n x)
   unfolding asked place_distance told_by point_cylinder point_line
-  cylinder-told r e = rw e
+  cylinder-told r g e = rw (g, e)
 
-pub circle-told : (n : ℕ) (a x : Position) (r : Float) {q : Float} → q ≡ point_square (coords n a) (coords n x) → told_by (RootLess r) q ≡ place_distance (asked n (place.Circle a r)) (coords n x)
+pub circle-told : (n : ℕ) (a x : Position) (r : Float) {d : Option Float} {q : Float} → d ≡ Some r → q ≡ point_square (coords n a) (coords n x) → told_by d q ≡ place_distance (asked n (place.Circle a r)) (coords n x)
 unfolding asked place_distance told_by point_circle point_point
-circle-told n a x r e = rw e
+circle-told n a x r g e = rw (g, e)
 
 -- from a plane, which is in space: by its magnitude
 pub plane-lies : (n k : ℕ) (v : Float) (x : Position) (w : Window) → dimension n ≡ true → unfit n (plane k v) ≡ false → k < 3 → Even w

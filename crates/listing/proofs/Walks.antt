@@ -1,19 +1,17 @@
--- The walk over the rows, from container to container: what a turn adds to the rows gathered, what is gathered at its end, and what the ids written are.
+-- The walk over the rows, from container to container: what a row and a container add to the rows gathered, what is gathered at its end, and what the ids written are.
 -- Assumes nothing.
-use Prim.Native.Nat.{ℕ, zero, suc, ◌+◌, ◌-◌, ◌≤◌, ◌<◌}
-use native.Mathlib.Numerals.{add-one}
-use native.Mathlib.Omega.{arith}
-use mathlib.Core.Path.{◌≡◌, refl, sym, ap, ap₂, ◌∙◌, subst}
-use mathlib.Core.Bool.{Bool, true, false, cond, ◌&&◌}
-use mathlib.Core.List.{List, [], ◌∷◌, ◌++◌, map, map-append, append-nil}
-use lib.Dec.{ltb}
-use lib.ListN.{length, get_or, take, drop, set, length-append, length-map, length-set}
-use lib.Seq.{get_or-set_same, get_or-set_other, get_or-take, take-append_seam, take-suc, take-suc-set, take-set-le, length-take-le, drop-cons, set_at, append_snoc}
-use borrow.Author.Tests.{lt-ltb, le-ltb}
+use Rattle.std.proofs.Common.{ℕ, zero, suc, ◌≡◌, ◌≢◌, ◌+◌, ◌-◌, ◌≤◌, ◌<◌, refl, sym, ap, ◌∙◌, subst, Bool, true, false, cond, ◌&&◌, List, [], ◌∷◌, ◌++◌, map, append-nil, eqb, ltb, length, get_or, take, drop, set, Option, Some, None, Result, Ok, Err, arith, add-one}
+use mathlib.Core.List.{map-append}
+use Rattle.std.proofs.lemmas.List.{map_more}
+use lib.ListN.{length-append, length-drop, length-map, length-set}
+use lib.Seq.{get_or-set_same, get_or-set_other, get_or-take, take_at, take-suc-set, take-set-le, length-take-le}
+use borrow.Author.Tests.{lt-ltb, le-ltb, eqb-true, eqb-false}
+use denote.Ref.{Bor}
 use Rattle.basics.proofs.Bools.{by_test}
 use Rattle.basics.specs.Lists.{keep, tab, over}
-use Rattle.basics.proofs.Lists.{map-take}
 use Rattle.basics.specs.Refusals.{fault}
+use Rattle.basics.specs.declared.Refusal.{Refusal}
+use Rattle.basics.specs.declared.Refusal.TheVariants as refusal
 use Rattle.geometry.specs.declared.Position.{Position}
 use Rattle.geometry.specs.Position.{coords}
 use Rattle.grid_search.specs.declared.GridSearch.{GridSearch}
@@ -22,17 +20,14 @@ use Rattle.table.specs.Rows.{key_in, id_in}
 use Rattle.table.specs.Library.{Library, row_at, rows_of, table}
 use Rattle.sorting.specs.Sorted.{distinct}
 use Rattle.sorting.specs.Posts.{mark_id, Indices}
-use Rattle.sorting.proofs.Mixes.{get_or-map, by_index}
 use Rattle.listing.specs.declared.Place.{Place}
 use Rattle.listing.specs.declared.Filter.{Filter}
-use Rattle.listing.specs.declared.Listed.{Listed}
-use Rattle.listing.specs.declared.Listed.TheVariants.{Count, Refused}
-use Rattle.listing.specs.declared.walk.Stretch.{Stretch}
 use Rattle.listing.specs.declared.walk.Reached.{Reached}
 use Rattle.listing.specs.Place.{Asked, asked, is_on, container_near, point_near, passes}
 use Rattle.listing.specs.Listing.{ids_of}
 use Rattle.basics.specs.Filled.{fill}
-use Rattle.listing.specs.Posts.{Counted, Stretched, Gathered, Walked, Out}
+use Rattle.listing.specs.Posts.{end_from, Counted, AllNear, Gathered, Marks, Walked, Out}
+use Rattle.listing.proofs.Containers.{end_past, end_upto, end_alike, counted_next}
 
 -- ---- whether a row counts, by its container and by itself
 
@@ -55,10 +50,6 @@ keep_append : {A : Type 0} (p : A → Bool) (xs ys : List A) → keep p (xs ++ y
 unfolding keep
 keep_append p [] ys = refl
 keep_append p (x ∷ xs) ys = by_test (p x) (λ e. rw e (ap (λ (l : List _). x ∷ l) (keep_append p xs ys))) (λ e. rw e (keep_append p xs ys))
-
--- the place left, where the next one is past the end
-pub last_place : (b : Bool) (n m room : ℕ) → m ≡ cond b (n + 1) n → n < room → m ≡ room → room ≡ n + 1
-last_place b n m room more h e = by_test b (λ q. let c : m ≡ n + 1 = rw q at more in omega (arith, c, e)) (λ q. let c : m ≡ n = rw q at more in absurd (omega (arith, c, e, h)))
 
 abbrev on : GridSearch → Place → Filter → Row → Bool
 on s p f = is_on s (asked s.ndim p) f
@@ -94,9 +85,10 @@ module _ {s : GridSearch} {p : Place} {f : Filter} {l : Library} where
   gathered_marked : {i n : ℕ} {marks : List ℕ} → Gathered s p f l i n marks → n < length marks → on s p f (row_at l i) ≡ true → Gathered s p f l (i + 1) (n + 1) (set marks n i)
   gathered_marked {i} {n} {marks} g room e = record {
     upto = omega (arith, g.upto);
-    below = λ k h. by_index k n
-        (λ w. subst (λ (m : ℕ). get_or (set marks n i) m 0 < i + 1) (sym w) (subst (λ (v : ℕ). v < i + 1) (sym (get_or-set_same marks n i 0 room)) (omega arith)))
-        (λ w. subst (λ (v : ℕ). v < i + 1) (sym (get_or-set_other marks n k i 0 w)) (omega (arith, g.below k (omega arith))));
+    below = λ k h.
+        by_test (eqb k n)
+        (λ w. rw (eqb-true k n w, get_or-set_same marks n i 0 room) (omega arith))
+        (λ w. rw (get_or-set_other marks n k i 0 (eqb-false k n w)) (omega (arith, g.below k (omega (arith, eqb-false k n w)))));
     ids-are =
         ap (map (mark_id l.ids)) (ap (λ (m : ℕ). take m (set marks n i)) (add-one n) ∙ take-suc-set marks n i room)
         ∙ map-append (mark_id l.ids) (take n marks) (i ∷ [])
@@ -105,23 +97,20 @@ module _ {s : GridSearch} {p : Place} {f : Filter} {l : Library} where
   }
 
   -- what is written behind the marks counts for nothing
-  gathered_behind : {i n : ℕ} {marks : List ℕ} (v : ℕ) → Gathered s p f l i n marks → Gathered s p f l i n (set marks n v)
-  gathered_behind {i} {n} {marks} v g = record {
+  gathered_behind : {i n : ℕ} {marks : List ℕ} (k v : ℕ) → n ≤ k → Gathered s p f l i n marks → Gathered s p f l i n (set marks k v)
+  gathered_behind {i} {n} {marks} k v h g = record {
     upto = g.upto;
-    below = λ k h. subst (λ (m : ℕ). m < i) (sym (get_or-set_other marks n k v 0 (λ w. omega arith))) (g.below k h);
-    ids-are = ap (map (mark_id l.ids)) (take-set-le n marks n v (omega arith)) ∙ g.ids-are;
+    below = λ j w. rw (get_or-set_other marks k j v 0 (λ e. omega arith)) (g.below j w);
+    ids-are = ap (map (mark_id l.ids)) (take-set-le n marks k v h) ∙ g.ids-are;
   }
 
   -- the same marks at the front of another list
-  gathered_copied : {i n : ℕ} {marks : List ℕ} (more : List ℕ) → n ≤ length marks → Gathered s p f l i n marks → Gathered s p f l i n (over (take n marks) more)
-  unfolding over
+  gathered_copied : {i n : ℕ} {marks : List ℕ} (more : List ℕ) → n ≤ length marks → Gathered s p f l i n marks → Gathered s p f l i n (take n marks ++ drop n more)
   gathered_copied {i} {n} {marks} more h g =
-      let len : length (take n marks) ≡ n = length-take-le n marks h in
-      let same : take n (over (take n marks) more) ≡ take n marks =
-      ap (λ (k : ℕ). take k (over (take n marks) more)) (sym len) ∙ take-append_seam (take n marks) (drop (length (take n marks)) more) in
+      let same : take n (take n marks ++ drop n more) ≡ take n marks = take_at (take n marks) (drop n more) n (length-take-le n marks h) in
       record {
         upto = g.upto;
-        below = λ j k. subst (λ (v : ℕ). v < i) (sym (sym (get_or-take n (over (take n marks) more) j 0 k) ∙ ap (λ (front : List ℕ). get_or front j 0) same ∙ get_or-take n marks j 0 k)) (g.below j k);
+        below = λ j k. rw (← get_or-take n (take n marks ++ drop n more) j 0 k, same, get_or-take n marks j 0 k) (g.below j k);
         ids-are = ap (map (mark_id l.ids)) same ∙ g.ids-are;
       }
 
@@ -132,81 +121,101 @@ module _ {s : GridSearch} {p : Place} {f : Filter} {l : Library} where
       let e : i + d + 1 ≡ i + suc d = omega arith in
       subst (λ (k : ℕ). Gathered s p f l k n marks) e (gathered_passed (gathered-beyond d g (λ j a b. far j a (omega arith))) (far (i + d) (omega arith) (omega arith)))
 
-  -- ---- a walk: its start, one row more, a far container, and its end
+-- ---- the rows of a near container, the first of which is row `first`, behind the first `marked` marks
 
-  module _ {counts : List ℕ} {places : ℕ} where
-    pub walked_none : Counted l.keys l.used counts places → (marks : List ℕ) → 0 < length marks
-        → Walked s p f l counts places (record { row = 0; end = 0; place = 0; marked = 0 }) marks
-    walked_none c marks h = record {
-      upto = omega arith;
-      near = λ i a b. absurd (omega arith);
-      ended = record { upto = omega arith; few = omega arith; counted = c };
-      inside = h;
-      gathered = gathered_none marks;
+pub record Marking (s : GridSearch) (p : Place) (f : Filter) (l : Library) (first marked : ℕ) (marks₀ : List ℕ) (row n : ℕ) (marks : List ℕ) : Type 0 where
+  pub same_length : length marks ≡ length marks₀
+  pub past : marked ≤ n
+  pub room : n < length marks
+  pub before : Gathered s p f l first marked marks
+  pub here : Gathered s p f l row n marks
+
+module _ {s : GridSearch} {p : Place} {f : Filter} {l : Library} where
+  module _ {first marked : ℕ} {marks₀ : List ℕ} {row n : ℕ} {marks : List ℕ} (w : Marking s p f l first marked marks₀ row n marks) where
+    pub marking_next : (b : Bool) (m : ℕ) → b ≡ on s p f (row_at l row) → (b ≡ true → m ≡ n + 1) → (b ≡ false → m ≡ n + 0) → m ≢ length (set marks n row)
+        → Marking s p f l first marked marks₀ (row + 1) m (set marks n row)
+    marking_next b m k one none left = record {
+      same_length = length-set marks n row ∙ w.same_length;
+      past = by_test b (λ q. omega (arith, one q, w.past)) (λ q. omega (arith, none q, w.past));
+      room = by_test b (λ q. omega (arith, one q, length-set marks n row, w.room, left)) (λ q. omega (arith, none q, length-set marks n row, w.room));
+      before = gathered_behind n row w.past w.before;
+      here = by_test b
+          (λ q. rw (one q) (gathered_marked w.here w.room (sym k ∙ q)))
+          (λ q. let e : m ≡ n = omega (arith, none q) in rw e (gathered_passed (gathered_behind n row (omega arith) w.here) (sym k ∙ q)));
     }
 
-    module _ {row end place n : ℕ} {marks : List ℕ} (w : Walked s p f l counts places (record { row = row; end = end; place = place; marked = n }) marks) {t : Stretch}
-        (st : Stretched s p l.keys l.used counts places row t) where
-      -- a far container
-      pub walked_far : t.near ≡ false → Walked s p f l counts places (record { row = t.end; end = t.end; place = t.place; marked = n }) marks
-      walked_far far =
-          let e : row + (t.end - row) ≡ t.end = omega (arith, st.past) in
-          record {
-            upto = omega arith;
-            near = λ i a b. absurd (omega arith);
-            ended = st.ended;
-            inside = w.inside;
-            gathered = subst (λ (k : ℕ). Gathered s p f l k n marks) e
-                (gathered-beyond (t.end - row) w.gathered (λ j a b. row_far s (asked s.ndim p) f (row_at l j) (st.alike j a (omega arith) ∙ far)));
-          }
+    -- no place would be left
+    pub marking_full : {end : ℕ} (b : Bool) (m : ℕ) → (b ≡ true → m ≡ n + 1) → (b ≡ false → m ≡ n + 0) → m ≡ length (set marks n row) → row < end
+        → Marks s p f l first end marked (set marks n row) None
+    marking_full {end} b m one none full h = (
+      by_test b (λ q. omega (arith, one q, full, w.here.upto)) (λ q. absurd (omega (arith, none q, full, w.room, length-set marks n row))),
+      omega (arith, length-set marks n row, w.room, w.past),
+      gathered_behind n row w.past w.before,
+    )
 
-      module _ (near : t.near ≡ true) where
-        -- a row of a near one
-        pub walked_next : (b : Bool) (m : ℕ) → b ≡ on s p f (row_at l row) → m ≡ cond b (n + 1) n → (m ≡ length (set marks n row) → ⊥)
-            → Walked s p f l counts places (record { row = row + 1; end = t.end; place = t.place; marked = m }) (set marks n row)
-        walked_next b m k more room = record {
-          upto = omega (arith, st.past);
-          near = λ i x y. st.alike i (omega arith) y ∙ near;
-          ended = st.ended;
-          inside = by_test b (λ q. let c : m ≡ n + 1 = rw q at more in omega (arith, length-set marks n row, w.inside, room, c)) (λ q. let c : m ≡ n = rw q at more in omega (arith, length-set marks n row, w.inside, c));
-          gathered = by_test b
-              (λ q. let c : m ≡ n + 1 = rw q at more in subst (λ (v : ℕ). Gathered s p f l (row + 1) v (set marks n row)) (sym c) (gathered_marked w.gathered w.inside (sym k ∙ q)))
-              (λ q. let c : m ≡ n = rw q at more in subst (λ (v : ℕ). Gathered s p f l (row + 1) v (set marks n row)) (sym c) (gathered_passed (gathered_behind row w.gathered) (sym k ∙ q)));
+    pub marking_end : {end : ℕ} → row ≡ end → Marks s p f l first end marked marks (Some n)
+    marking_end {end} e = (w.room, subst (λ (k : ℕ). Gathered s p f l k n marks) e w.here)
+
+-- ---- a container: near, with all its rows, or far, and then passed
+
+module _ (s : GridSearch) (p : Place) (f : Filter) (l : Library) where
+  module _ (k : l.used ≤ length l.keys) {first : ℕ} (h : first < l.used) {end : ℕ} (is-end : end ≡ end_from l.keys l.used first) where
+    pub all_near : true ≡ container_near s (asked s.ndim p) (get_or l.keys first 0) → AllNear s p l.keys first end
+    all_near near i a b = ap (container_near s (asked s.ndim p)) (end_alike l.keys l.used first k h i a (omega arith)) ∙ sym near
+
+    pub far_passed : {marked : ℕ} {marks : List ℕ} → false ≡ container_near s (asked s.ndim p) (get_or l.keys first 0) → marked < length marks
+        → Gathered s p f l first marked marks → Marks s p f l first end marked marks (Some marked)
+    far_passed {marked} {marks} far room g =
+        let past : first < end = omega (arith, end_past l.keys l.used first k h) in
+        let e : first + (end - first) ≡ end = omega arith in
+        let all_far : (j : ℕ) → first ≤ j → j < first + (end - first) → on s p f (row_at l j) ≡ false =
+        λ j a b. row_far s (asked s.ndim p) f (row_at l j) (ap (container_near s (asked s.ndim p)) (end_alike l.keys l.used first k h j a (omega arith)) ∙ sym far) in
+        (room, subst (λ (n : ℕ). Gathered s p f l n marked marks) e (gathered-beyond (end - first) g all_far))
+
+-- ---- a walk: its start, one container more, and its end
+
+module _ {s : GridSearch} {p : Place} {f : Filter} {l : Library} where
+  module _ {counts : Option (Bor (List ℕ))} where
+    pub walked_none : Counted l.keys l.used counts → (marks : List ℕ) → 0 < length marks
+        → Walked s p f l counts (record { row = 0; place = 0; marked = 0 }) marks
+    walked_none c marks h = record { upto = omega arith; few = omega arith; counted = c; inside = h; gathered = gathered_none marks }
+
+    module _ {r : Reached} {marks : List ℕ} (w : Walked s p f l counts r marks) where
+      module _ (k : l.used ≤ length l.keys) (h : r.row < l.used) {end : ℕ} (is-end : end ≡ end_from l.keys l.used r.row) {after : List ℕ} where
+        pub walked_next : {n : ℕ} → Marks s p f l r.row end r.marked after (Some n) → Walked s p f l counts (record { row = end; place = r.place + 1; marked = n }) after
+        walked_next m = record {
+          upto = omega (arith, end_upto l.keys l.used r.row k h);
+          few = omega (arith, w.few, end_past l.keys l.used r.row k h);
+          counted = counted_next l.keys l.used r.row k h counts r.place w.counted is-end;
+          inside = m.0;
+          gathered = m.1;
         }
 
-        -- one that is given up again, since no place would be left
-        pub walked-back : Walked s p f l counts places (record { row = row; end = t.end; place = t.place; marked = n }) (set marks n row)
-        walked-back = record {
-          upto = omega (arith, st.past);
-          near = λ i x y. st.alike i x y ∙ near;
-          ended = st.ended;
-          inside = omega (arith, length-set marks n row, w.inside);
-          gathered = gathered_behind row w.gathered;
-        }
+        pub walked_stop : Marks s p f l r.row end r.marked after None → Walked s p f l counts r after
+        walked_stop m = record { upto = w.upto; few = w.few; counted = w.counted; inside = m.1; gathered = m.2 }
 
-    module _ {r : Reached} where
-      pub walked_copied : {few : List ℕ} (more : List ℕ) {after : List ℕ} → after ≡ over (take r.marked few) more → r.marked < length after → Walked s p f l counts places r few
-          → Walked s p f l counts places r after
-      walked_copied {few} more {after} e h w = record {
+      pub walked_copied : (more : List ℕ) → r.marked < length more → Walked s p f l counts r (take r.marked marks ++ drop r.marked more)
+      walked_copied more h = record {
         upto = w.upto;
-        near = w.near;
-        ended = w.ended;
-        inside = h;
-        gathered = subst (Gathered s p f l r.row r.marked) (sym e) (gathered_copied more (omega (arith, w.inside)) w.gathered);
+        few = w.few;
+        counted = w.counted;
+        inside = rw (length-append (take r.marked marks), length-drop r.marked more, length-take-le r.marked marks (omega (arith, w.inside))) (omega arith);
+        gathered = gathered_copied more (omega (arith, w.inside)) w.gathered;
       }
 
-      module _ {marks : List ℕ} (w : Walked s p f l counts places r marks) where
-        pub walked-below : l.used ≤ length l.ids → (r.marked ≤ length marks) × Indices (length l.ids) r.marked marks
-        walked-below h = (omega (arith, w.inside), λ j k. omega (arith, w.gathered.below j k, w.upto, w.ended.upto))
+      pub walked_indices : l.used ≤ length l.ids → Indices (length l.ids) (length (take r.marked marks)) (take r.marked marks)
+      walked_indices h j k =
+          let n : j < r.marked = omega (arith, length-take-le r.marked marks (omega (arith, w.inside))) in
+          rw (get_or-take r.marked marks j 0 n) (omega (arith, w.gathered.below j n, w.upto))
 
-        -- where the last row was reached, the ids of the marks are those of the listing
-        pub walked_all : {list after : List ℕ} {o : Listed} → l.used ≤ r.row
-            → Out (distinct (map (mark_id l.ids) (take r.marked marks))) list o after → Out (ids_of (on s p f) (table l)) list o after
-        unfolding table ids_of
-        walked_all {list} {after} {o} h out =
-            let e : r.row ≡ l.used = omega (arith, w.upto, w.ended.upto) in
-            let g : Gathered s p f l l.used r.marked marks = subst (λ (k : ℕ). Gathered s p f l k r.marked marks) e w.gathered in
-            subst (λ (found : List ℕ). Out found list o after) (ap distinct g.ids-are) out
+      -- where the last row was reached, the ids of the marks are those of the listing
+      pub walked_all : {list after : List ℕ} {o : Result ℕ Refusal} → l.used ≤ r.row
+          → Out (distinct (map (mark_id l.ids) (take r.marked marks))) list o after → Out (ids_of (on s p f) (table l)) list o after
+      unfolding table ids_of
+      walked_all {list} {after} {o} h out =
+          let e : r.row ≡ l.used = omega (arith, w.upto) in
+          let g : Gathered s p f l l.used r.marked marks = subst (λ (k : ℕ). Gathered s p f l k r.marked marks) e w.gathered in
+          subst (λ (found : List ℕ). Out found list o after) (ap distinct g.ids-are) out
 
 -- ---- the two ways out
 
@@ -214,11 +223,11 @@ module _ (ids marks out : List ℕ) (n : ℕ) (inside : n ≤ length marks) (are
   count : length out ≡ n
   count = ap length (sym are) ∙ length-map (take n marks) (mark_id ids) ∙ length-take-le n marks inside
 
-  pub out_short : length list < n → Out out list (Refused 14) list
+  pub out_short : length list < n → Out out list (Err refusal.Short) list
   unfolding fill fault
   out_short h = let t : ltb (length list) (length out) ≡ true = lt-ltb (length list) (length out) (omega (arith, count)) in record { answers = rw t; list-is = rw t }
 
-  pub out_long : (after : List ℕ) → n ≤ length list → after ≡ over (map (mark_id ids) (take n marks)) list → Out out list (Count n) after
+  pub out_long : (after : List ℕ) → n ≤ length list → after ≡ over (map (mark_id ids) (take n marks)) list → Out out list (Ok n) after
   unfolding fill fault
   out_long after h e =
       let t : ltb (length list) (length out) ≡ false = le-ltb (length list) (length out) (omega (arith, count)) in
@@ -226,24 +235,18 @@ module _ (ids marks out : List ℕ) (n : ℕ) (inside : n ≤ length marks) (are
 
 -- ---- a list written at its front: one more
 
-pub copied_next : (new list : List ℕ) (j : ℕ) → j < length new → j < length list → set (over (take j new) list) j (get_or new j 0) ≡ over (take (j + 1) new) list
+over_more : (xs : List ℕ) (v : ℕ) (list : List ℕ) → length xs < length list → set (over xs list) (length xs) v ≡ over (xs ++ v ∷ []) list
 unfolding over
-copied_next new list j h room =
-    let l : List ℕ = take j new in
-    let y : ℕ = get_or new j 0 in
-    let len : length l ≡ j = length-take-le j new (omega arith) in
-    let len' : length (l ++ y ∷ []) ≡ suc j = length-append l (y ∷ []) ∙ omega (arith, len) in
-    let more : take (j + 1) new ≡ l ++ y ∷ [] = rw (add-one j, take-suc new j 0 h) in
-    ap (λ (k : ℕ). set (l ++ drop k list) j y) len
-    ∙ ap (λ (r : List ℕ). set (l ++ r) j y) (drop-cons list j 0 room)
-    ∙ set_at l (get_or list j 0) (drop (suc j) list) y j len
-    ∙ sym (append_snoc l y (drop (suc j) list))
-    ∙ ap (λ (k : ℕ). (l ++ y ∷ []) ++ drop k list) (sym len')
-    ∙ ap (λ (r : List ℕ). r ++ drop (length r) list) (sym more)
+over_more [] v [] h = absurd (omega arith)
+over_more [] v (y ∷ list) h = refl
+over_more (x ∷ xs) v [] h = absurd (omega arith)
+over_more (x ∷ xs) v (y ∷ list) h = ap (λ (l : List ℕ). x ∷ l) (over_more xs v list (omega arith))
 
-pub written_next : (keys marks list : List ℕ) (j : ℕ) → j < length marks → j < length list
-    → set (over (map (mark_id keys) (take j marks)) list) j (mark_id keys (get_or marks j 0)) ≡ over (map (mark_id keys) (take (j + 1) marks)) list
-written_next keys marks list j h room =
-    ap₂ (λ (l : List ℕ) (y : ℕ). set (over l list) j y) (map-take (mark_id keys) j marks) (sym (get_or-map (mark_id keys) marks j h))
-    ∙ copied_next (map (mark_id keys) marks) list j (omega (arith, length-map marks (mark_id keys))) room
-    ∙ ap (λ (l : List ℕ). over l list) (sym (map-take (mark_id keys) (j + 1) marks))
+pub written_next : (ids marks list : List ℕ) (i : ℕ) → i < length marks → length marks ≤ length list
+    → set (over (map (mark_id ids) (take i marks)) list) i (mark_id ids (get_or marks i 0)) ≡ over (map (mark_id ids) (take (i + 1) marks)) list
+written_next ids marks list i h room =
+    let xs : List ℕ = map (mark_id ids) (take i marks) in
+    let len : length xs ≡ i = length-map (take i marks) (mark_id ids) ∙ length-take-le i marks (omega arith) in
+    ap (λ (j : ℕ). set (over xs list) j (mark_id ids (get_or marks i 0))) (sym len)
+    ∙ over_more xs (mark_id ids (get_or marks i 0)) list (omega (arith, len))
+    ∙ ap (λ (l : List ℕ). over l list) (sym (map_more (mark_id ids) marks i 0 h))

@@ -1,9 +1,11 @@
 -- Module 8: the ids listed, ascending, once each, and what a listing answers and leaves in the lent list.
 -- Assumes nothing.
-use Rattle.std.specs.Prelude.{ℕ, ◌≡◌, Bool, true, false, List, [], ◌∷◌, ◌++◌, map, ltb, length}
+use Rattle.std.specs.Prelude.{ℕ, ◌≡◌, Bool, true, false, List, [], ◌∷◌, ◌++◌, map, ltb, length, Result}
 use Rattle.basics.specs.Lists.{keep}
 use Rattle.basics.specs.Filled.{Filled, fill}
-use Rattle.basics.specs.Refusals.{Test, refuse, fault, Answer, refused, success}
+use Rattle.basics.specs.Refusals.{Test, refuse, fault, Answer}
+use Rattle.basics.specs.declared.Refusal.{Refusal}
+use Rattle.basics.specs.Answers.{answered}
 use Rattle.grid_search.specs.declared.GridSearch.{GridSearch}
 use Rattle.table.specs.declared.Row.{Row}
 use Rattle.table.specs.Rows.{id_in}
@@ -11,8 +13,6 @@ use Rattle.table.specs.Library.{Library, table}
 use Rattle.rows.specs.Damage.{library_tests}
 use Rattle.sorting.specs.Sorted.{distinct}
 use Rattle.listing.specs.declared.Filter.{Filter}
-use Rattle.listing.specs.declared.Listed.{Listed}
-use Rattle.listing.specs.declared.Listed.TheVariants.{Count, Refused}
 use Rattle.listing.specs.Place.{Asked, is_on, place_tests}
 
 -- the ids of the rows that count, ascending, once each
@@ -44,11 +44,10 @@ unfoldable pub listing : GridSearch → Library → Asked → Filter → List �
 unfolding fill fault listing_tests ids_on
 listing s l p f list = fill (fault (listing_tests s l p f (length list))) (ids_on s l p f) list
 
-abbrev pub listed : Listed → Answer ℕ
-listed (Count n) = success n
-listed (Refused n) = refused n
+abbrev pub listed : Result ℕ Refusal → Answer ℕ
+listed = answered (λ n. n)
 
 -- what is returned, and what the list holds at exit, is what the definition gives
-pub record Lists (l : Filled) (r : Listed) (list : List ℕ) : Type 0 where
+pub record Lists (l : Filled) (r : Result ℕ Refusal) (list : List ℕ) : Type 0 where
   pub answers : listed r ≡ l.answer
   pub list-is : list ≡ l.list

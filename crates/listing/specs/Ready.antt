@@ -1,13 +1,13 @@
 -- What a place made ready for many points holds.
 -- Assumes nothing.
-use Rattle.std.specs.Prelude.{ℕ, ◌≡◌, ◌⊎◌, true, Float}
+use Rattle.std.specs.Prelude.{ℕ, ◌≡◌, ◌⊎◌, true, Some, None, Float}
 use Rattle.std.specs.Float.{inf}
 use Rattle.std.specs.Float.Ieee.{neg}
+use Rattle.floats.specs.Rounded.{◌⊕◌}
 use Rattle.geometry.specs.declared.Line.{Line}
 use Rattle.geometry.specs.Distances.{line_of}
-use Rattle.windows.specs.declared.Distance.TheVariants.{Root, RootLess}
 use Rattle.windows.specs.declared.Window.{Window}
-use Rattle.windows.specs.Window.{Tells}
+use Rattle.grid_search.specs.declared.GridSearch.{GridSearch}
 use Rattle.listing.specs.declared.Place.{Place}
 use Rattle.listing.specs.declared.Place.TheVariants as place
 use Rattle.listing.specs.declared.near.Ready.{Ready}
@@ -27,9 +27,9 @@ Even w = (w.from ≡ inf true) ⊎ (w.from ≡ neg w.to)
 
 -- a window of the distances from a place
 abbrev pub Windowed : Place → Window → Type 0
-Windowed (place.Line a b) w = Tells Root w
-Windowed (place.Circle a r) w = Tells (RootLess r) w
-Windowed (place.Cylinder a b r) w = Tells (RootLess r) w
+Windowed (place.Line a b) w = w.radius ≡ None
+Windowed (place.Circle a r) w = w.radius ≡ Some r
+Windowed (place.Cylinder a b r) w = w.radius ≡ Some r
 Windowed (place.PlaneXY z) w = Even w
 Windowed (place.PlaneYZ x) w = Even w
 Windowed (place.PlaneXZ y) w = Even w
@@ -43,3 +43,7 @@ pub record Made (n : ℕ) (center point : Float) (r : Ready) : Type 0 where
   pub center_to : r.center.to ≡ center
   pub point_from : r.point.from ≡ neg point
   pub point_to : r.point.to ≡ point
+
+-- for the listings of a sheet
+abbrev pub MadeFor : GridSearch → Ready → Type 0
+MadeFor s r = Made s.ndim (s.radius ⊕ s.tol_dist) s.tol_dist r

@@ -1,29 +1,27 @@
 // What turns a place and a filter away, and the place that a number and slices name.
-ghost use Rattle.std.specs.Prelude.{◌≡◌, true, Float};
-ghost use Rattle.geometry.specs.Position.{dimension};
+ghost use Rattle.std.specs.Prelude.{◌≡◌, Float};
 ghost use Rattle.listing.specs.Place.{asked_of, asked as asked_in, unfit, unfit_filter, wrong_length, place_limits, filter_limits, pinched};
-ghost use Rattle.listing.specs.Posts.{Stands};
+ghost use Rattle.listing.specs.Posts.{Named};
 
 use crate::{Filter, Place};
-use geometry::Position;
+use geometry::{Dimension, Position};
 
 // Whether there is no such place in so many dimensions: 16.
-pub(crate) fn is_unfit(ndim: usize, place: Place) -> bool
-    ensures { result ≡ unfit ndim (asked_in ndim place) }
+#[tactic(auto, unfolding(crate::specs::Place::asked, crate::specs::Place::unfit))]
+pub(crate) fn is_unfit(ndim: Dimension, place: Place) -> bool
+    ensures { result ≡ unfit ndim.n (asked_in ndim.n place) }
 {
     match place {
         Place::Line(_, _) => false,
-        Place::Circle(_, _) => ndim != 2,
-        Place::Cylinder(_, _, _) => ndim != 3,
-        Place::PlaneXY(_) => ndim != 3,
-        Place::PlaneYZ(_) => ndim != 3,
-        Place::PlaneXZ(_) => ndim != 3,
+        Place::Circle(_, _) => ndim.n != 2,
+        _ => ndim.n != 3,
     }
 }
 
 // Whether the filter is on an axis that is not there: 16.
-pub(crate) fn is_unfit_filter(ndim: usize, filter: Filter) -> bool
-    ensures { result ≡ unfit_filter ndim filter }
+#[tactic(auto, unfolding(crate::specs::Place::unfit_filter))]
+pub(crate) fn is_unfit_filter(ndim: Dimension, filter: Filter) -> bool
+    ensures { result ≡ unfit_filter ndim.n filter }
 {
     match filter {
         Filter::Everything => false,
@@ -31,30 +29,26 @@ pub(crate) fn is_unfit_filter(ndim: usize, filter: Filter) -> bool
             axis,
             low: _,
             high: _,
-        } => ndim as u64 <= axis,
+        } => ndim.n as u64 <= axis,
     }
 }
 
-// Whether a position of the place has another length than the dimension: 2.
-pub(crate) fn has_wrong_length(ndim: usize, place: u64, a: &[f64], b: &[f64]) -> bool
-    ensures { (v : Float) → result ≡ wrong_length ndim (asked_of place a.now b.now v) }
+// Whether a position of the place of a number has another length than the dimension: 2.
+#[tactic(auto, unfolding(crate::specs::Place::asked_of, crate::specs::Place::wrong_length))]
+pub(crate) fn has_wrong_length(ndim: Dimension, place: u64, a: &[f64], b: &[f64]) -> bool
+    ensures { (v : Float) → result ≡ wrong_length ndim.n (asked_of place a.now b.now v) }
 {
-    if place == 0 {
-        return !((a.len() == ndim) & (b.len() == ndim));
+    match place {
+        0 | 2 => !((a.len() == ndim.n) & (b.len() == ndim.n)),
+        1 => a.len() != ndim.n,
+        _ => false,
     }
-    if place == 1 {
-        return a.len() != ndim;
-    }
-    if place == 2 {
-        return !((a.len() == ndim) & (b.len() == ndim));
-    }
-    false
 }
 
 // Whether every coordinate of the place, its radius included, is one: else 3.
-pub(crate) fn place_ok(ndim: usize, place: Place) -> bool
-    requires { dimension ndim ≡ true }
-    ensures { result ≡ place_limits (asked_in ndim place) }
+#[tactic(auto, unfolding(crate::specs::Place::asked, crate::specs::Place::place_limits))]
+pub(crate) fn place_ok(ndim: Dimension, place: Place) -> bool
+    ensures { result ≡ place_limits (asked_in ndim.n place) }
 {
     match place {
         Place::Line(a, b) => geometry::position_ok(ndim, a) & geometry::position_ok(ndim, b),
@@ -65,13 +59,12 @@ pub(crate) fn place_ok(ndim: usize, place: Place) -> bool
             geometry::position_ok(ndim, a)
                 & (geometry::position_ok(ndim, b) & geometry::is_coordinate(radius))
         }
-        Place::PlaneXY(z) => geometry::is_coordinate(z),
-        Place::PlaneYZ(x) => geometry::is_coordinate(x),
-        Place::PlaneXZ(y) => geometry::is_coordinate(y),
+        Place::PlaneXY(v) | Place::PlaneYZ(v) | Place::PlaneXZ(v) => geometry::is_coordinate(v),
     }
 }
 
 // Whether the ends of a range are coordinates: else 3.
+#[tactic(auto, unfolding(crate::specs::Place::filter_limits))]
 pub(crate) fn filter_ok(filter: Filter) -> bool
     ensures { result ≡ filter_limits filter }
 {
@@ -83,40 +76,31 @@ pub(crate) fn filter_ok(filter: Filter) -> bool
     }
 }
 
-// The place of a number and slices. Where the number names none, or a slice has another length than the dimension, it is
-// some place, which no caller lists.
-pub(crate) fn made(place: u64, a: &[f64], b: &[f64], number: f64) -> Place
-    ensures { Stands place a.now b.now number result }
+// The place of a number and slices, where the number names one. Where a slice has another length than the dimension, it is
+// some place of the kind, which no caller lists.
+// Kept: the C interface names a place by a number.
+#[tactic(auto, unfolding(crate::specs::Place::asked_of))]
+pub(crate) fn made(place: u64, a: &[f64], b: &[f64], number: f64) -> Option<Place>
+    ensures { Named place a.now b.now number result }
 {
-    if place == 0 {
-        return Place::Line(Position::new(a), Position::new(b));
+    match place {
+        0 => Some(Place::Line(Position::new(a), Position::new(b))),
+        1 => Some(Place::Circle(Position::new(a), number)),
+        2 => Some(Place::Cylinder(Position::new(a), Position::new(b), number)),
+        3 => Some(Place::PlaneXY(number)),
+        4 => Some(Place::PlaneYZ(number)),
+        5 => Some(Place::PlaneXZ(number)),
+        _ => None,
     }
-    if place == 1 {
-        return Place::Circle(Position::new(a), number);
-    }
-    if place == 2 {
-        return Place::Cylinder(Position::new(a), Position::new(b), number);
-    }
-    if place == 3 {
-        return Place::PlaneXY(number);
-    }
-    if place == 4 {
-        return Place::PlaneYZ(number);
-    }
-    Place::PlaneXZ(number)
 }
 
 // Whether the ends of a line or a cylinder are too close: 15.
-pub(crate) fn is_pinched(ndim: usize, place: Place) -> bool
-    requires { dimension ndim ≡ true }
-    ensures { result ≡ pinched (asked_in ndim place) }
+#[tactic(auto, unfolding(crate::specs::Place::asked, crate::specs::Place::pinched))]
+pub(crate) fn is_pinched(ndim: Dimension, place: Place) -> bool
+    ensures { result ≡ pinched (asked_in ndim.n place) }
 {
     match place {
-        Place::Line(a, b) => geometry::too_close(ndim, a, b),
-        Place::Circle(_, _) => false,
-        Place::Cylinder(a, b, _) => geometry::too_close(ndim, a, b),
-        Place::PlaneXY(_) => false,
-        Place::PlaneYZ(_) => false,
-        Place::PlaneXZ(_) => false,
+        Place::Line(a, b) | Place::Cylinder(a, b, _) => geometry::too_close(ndim, a, b),
+        _ => false,
     }
 }

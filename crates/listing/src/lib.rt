@@ -5,18 +5,21 @@ mod asked;
 mod near;
 mod walk;
 
-ghost use Rattle.basics.specs.Refusals.{fault, code};
-ghost use Rattle.geometry.specs.Position.{dimension};
-ghost use Rattle.table.specs.Library.{library};
+ghost use Rattle.basics.specs.Answers.{fault_in};
+ghost use Rattle.basics.specs.Refusals.{fault};
+ghost use Rattle.geometry.specs.Axes.{dimension};
+ghost use Rattle.table.specs.Lent.{lent};
 ghost use Rattle.rows.specs.Damage.{library_tests};
-ghost use Rattle.listing.specs.Place.{line, circle, cylinder, plane, asked_of, asked, place_tests};
+ghost use Rattle.listing.specs.Place.{line, circle, cylinder, asked_of, asked, place_tests};
 ghost use Rattle.listing.specs.Listing.{listing, Lists};
 ghost use Rattle.listing.specs.Posts.{Counted};
 ghost use Rattle.std.specs.Prelude.{◌≡◌, true, ltb};
 ghost use Rattle.std.proofs.Math.Option.{none};
 
-use geometry::Position;
+use basics::Refusal;
+use geometry::{Dimension, Position};
 use grid_search::GridSearch;
+use table::Library;
 
 // A place: what the marks of a listing lie on.
 #[derive(Clone, Copy)]
@@ -40,99 +43,75 @@ pub enum Filter {
     Range { axis: u64, low: f64, high: f64 },
 }
 
-// What a listing answers: how many ids it wrote, or the refusal.
-#[derive(Clone, Copy)]
-pub enum Listed {
-    Count(usize),
-    Refused(u64),
-}
-
-// What turns a place and a filter away: 16, 3, 15 where a row is in use, or 0.
-fn place_fault(sheet: GridSearch, used: usize, place: Place, filter: Filter) -> u64
+// What turns a place and a filter away: 16, 3, and 15 where a row is in use.
+#[tactic(auto, using(crate::proofs::Places::right_lengths), unfolding(crate::specs::Place::place_tests, basics::specs::Refusals::fault))]
+fn place_fault(sheet: GridSearch, used: usize, place: Place, filter: Filter) -> Result<(), Refusal>
     requires { dimension sheet.ndim ≡ true }
-    ensures { result ≡ code (fault (place_tests sheet (asked sheet.ndim place) filter (ltb 0 used))) }
+    ensures { fault_in result ≡ fault (place_tests sheet (asked sheet.ndim place) filter (ltb 0 used)) }
 {
-    let ndim = sheet.ndim;
+    let ndim = Dimension { n: sheet.ndim };
     let unfit = asked::is_unfit(ndim, place) | asked::is_unfit_filter(ndim, filter);
     let within = asked::place_ok(ndim, place) & asked::filter_ok(filter);
     if unfit {
-        return 16;
+        return Err(Refusal::Unfit);
     }
     if !within {
-        return 3;
+        return Err(Refusal::Limit);
     }
     if (0 < used) & asked::is_pinched(ndim, place) {
-        return 15;
+        return Err(Refusal::Close);
     }
-    0
+    Ok(())
 }
 
-// The listing of `search_on`, past the check of the library. `counts` has at its front how many rows each container has, in
-// their order, in `places` places; 0 places where that is not at hand, and then it is not read.
+// The listing of `search_on`, past the check of the library. `counts` says how many rows each container has, in their order,
+// where that is at hand. It becomes part of each caller, whose frame then holds the sheet and the library once.
+#[inline(always)]
 pub fn search_checked_on(
     sheet: GridSearch,
-    keys: &[u64],
-    ids: &[u64],
-    xs: &[f64],
-    ys: &[f64],
-    zs: &[f64],
-    used: usize,
-    counts: &[u64],
-    places: usize,
+    library: Library,
+    counts: Option<&[u64]>,
     place: Place,
     filter: Filter,
     list: &mut [u64],
-) -> Listed
-    requires fact_1 { fault (library_tests sheet (library keys.now ids.now xs.now ys.now zs.now used)) ≡ none }
-    requires fact_2 { Counted keys.now used counts.now places }
-    ensures { Lists (listing sheet (library keys.now ids.now xs.now ys.now zs.now used)
-        (asked sheet.ndim place) filter list.old) result list.new }
+) -> Result<usize, Refusal>
+    requires sound { fault (library_tests sheet (lent library)) ≡ none }
+    requires counted { Counted library.keys.now library.used counts }
+    ensures { Lists (listing sheet (lent library.entry) (asked sheet.ndim place) filter list.old) result list.new }
 {
-    let fault = place_fault(sheet, used, place, filter);
-    if fault != 0 {
-        return Listed::Refused(fault);
-    }
-    walk::list_on(
-        sheet, keys, ids, xs, ys, zs, used, counts, places, place, filter, list,
-    )
+    place_fault(sheet, library.used, place, filter)?;
+    walk::list_on(sheet, library, counts, place, filter, list)
 }
 
-// The listing of `search_on_place`, past the check of the library, with `counts` as in `search_checked_on`.
+// The listing of `search_on_place`, past the check of the library, with `counts` and its frame as in
+// `search_checked_on`.
+#[inline(always)]
 pub fn search_checked_on_place(
     sheet: GridSearch,
-    keys: &[u64],
-    ids: &[u64],
-    xs: &[f64],
-    ys: &[f64],
-    zs: &[f64],
-    used: usize,
-    counts: &[u64],
-    places: usize,
+    library: Library,
+    counts: Option<&[u64]>,
     place: u64,
     a: &[f64],
     b: &[f64],
     number: f64,
     filter: Filter,
     list: &mut [u64],
-) -> Listed
-    requires fact_1 { fault (library_tests sheet (library keys.now ids.now xs.now ys.now zs.now used)) ≡ none }
-    requires fact_2 { Counted keys.now used counts.now places }
-    ensures { Lists (listing sheet (library keys.now ids.now xs.now ys.now zs.now used)
-        (asked_of place a.now b.now number) filter list.old) result list.new }
+) -> Result<usize, Refusal>
+    requires sound { fault (library_tests sheet (lent library)) ≡ none }
+    requires counted { Counted library.keys.now library.used counts }
+    ensures { Lists (listing sheet (lent library.entry) (asked_of place a.now b.now number) filter list.old) result list.new }
 {
-    let ndim = sheet.ndim;
-    let on = asked::made(place, a, b, number);
-    let right = !asked::has_wrong_length(ndim, place, a, b);
-    if (place <= 5) & right {
-        return search_checked_on(
-            sheet, keys, ids, xs, ys, zs, used, counts, places, on, filter, list,
-        );
+    let Some(on) = asked::made(place, a, b, number) else {
+        return Err(Refusal::Unfit);
+    };
+    let ndim = Dimension { n: sheet.ndim };
+    if asked::is_unfit(ndim, on) | asked::is_unfit_filter(ndim, filter) {
+        return Err(Refusal::Unfit);
     }
-    let unfit = asked::is_unfit(ndim, on) | asked::is_unfit_filter(ndim, filter);
-    if (5 < place) | unfit {
-        return Listed::Refused(16);
+    if asked::has_wrong_length(ndim, place, a, b) {
+        return Err(Refusal::Length);
     }
-    Listed::Refused(2)
+    search_checked_on(sheet, library, counts, on, filter, list)
 }
 
 // Lists the marks on a place that the filter keeps: their ids, ascending and once each, stand at the front of the list, and
@@ -144,26 +123,15 @@ pub fn search_checked_on_place(
 // than the listing). 2 cannot come up: the place holds positions, of whatever dimension.
 pub fn search_on(
     sheet: GridSearch,
-    keys: &[u64],
-    ids: &[u64],
-    xs: &[f64],
-    ys: &[f64],
-    zs: &[f64],
-    used: usize,
+    library: Library,
     place: Place,
     filter: Filter,
     list: &mut [u64],
-) -> Listed
-    ensures { Lists (listing sheet (library keys.now ids.now xs.now ys.now zs.now used)
-        (asked sheet.ndim place) filter list.old) result list.new }
+) -> Result<usize, Refusal>
+    ensures { Lists (listing sheet (lent library.entry) (asked sheet.ndim place) filter list.old) result list.new }
 {
-    let damage = rows::library_fault(sheet, keys, ids, xs, ys, zs, used);
-    if damage != 0 {
-        return Listed::Refused(damage);
-    }
-    search_checked_on(
-        sheet, keys, ids, xs, ys, zs, used, keys, 0, place, filter, list,
-    )
+    rows::library_fault(sheet, library)?;
+    search_checked_on(sheet, library, None, place, filter, list)
 }
 
 // The listing of a place that is given by a number and slices, as `search_on` gives it, with 2 (a position's length is not
@@ -172,185 +140,63 @@ pub fn search_on(
 // `number`; any other is 16. A slice that the place has no use for is not read.
 pub fn search_on_place(
     sheet: GridSearch,
-    keys: &[u64],
-    ids: &[u64],
-    xs: &[f64],
-    ys: &[f64],
-    zs: &[f64],
-    used: usize,
+    library: Library,
     place: u64,
     a: &[f64],
     b: &[f64],
     number: f64,
     filter: Filter,
     list: &mut [u64],
-) -> Listed
-    ensures { Lists (listing sheet (library keys.now ids.now xs.now ys.now zs.now used)
-        (asked_of place a.now b.now number) filter list.old) result list.new }
+) -> Result<usize, Refusal>
+    ensures { Lists (listing sheet (lent library.entry) (asked_of place a.now b.now number) filter list.old) result list.new }
 {
-    let damage = rows::library_fault(sheet, keys, ids, xs, ys, zs, used);
-    if damage != 0 {
-        return Listed::Refused(damage);
-    }
-    search_checked_on_place(
-        sheet, keys, ids, xs, ys, zs, used, keys, 0, place, a, b, number, filter, list,
-    )
+    rows::library_fault(sheet, library)?;
+    search_checked_on_place(sheet, library, None, place, a, b, number, filter, list)
 }
 
 // Lists the marks on the line through a and b, as `search_on` lists those on a place. Refused with the first of 24, 13, 16
 // (the filter), 2, 3, 15 and 14 that applies, the list as it was; so is each of the calls below.
+#[tactic(auto, unfolding(crate::specs::Place::asked_of))]
 pub fn search_on_line(
     sheet: GridSearch,
-    keys: &[u64],
-    ids: &[u64],
-    xs: &[f64],
-    ys: &[f64],
-    zs: &[f64],
-    used: usize,
+    library: Library,
     a: &[f64],
     b: &[f64],
     filter: Filter,
     list: &mut [u64],
-) -> Listed
-    ensures { Lists (listing sheet (library keys.now ids.now xs.now ys.now zs.now used)
-        (line a.now b.now) filter list.old) result list.new }
+) -> Result<usize, Refusal>
+    ensures { Lists (listing sheet (lent library.entry) (line a.now b.now) filter list.old) result list.new }
 {
-    search_on_place(
-        sheet, keys, ids, xs, ys, zs, used, 0, a, b, 0.0, filter, list,
-    )
+    search_on_place(sheet, library, 0, a, b, 0.0, filter, list)
 }
 
 // Lists the marks on the circle of a centre and a radius, in the plane: 24, 13, 16, 2, 3, 14.
+#[tactic(auto, unfolding(crate::specs::Place::asked_of))]
 pub fn search_on_circle(
     sheet: GridSearch,
-    keys: &[u64],
-    ids: &[u64],
-    xs: &[f64],
-    ys: &[f64],
-    zs: &[f64],
-    used: usize,
+    library: Library,
     center: &[f64],
     radius: f64,
     filter: Filter,
     list: &mut [u64],
-) -> Listed
-    ensures { Lists (listing sheet (library keys.now ids.now xs.now ys.now zs.now used)
-        (circle center.now radius) filter list.old) result list.new }
+) -> Result<usize, Refusal>
+    ensures { Lists (listing sheet (lent library.entry) (circle center.now radius) filter list.old) result list.new }
 {
-    search_on_place(
-        sheet, keys, ids, xs, ys, zs, used, 1, center, center, radius, filter, list,
-    )
+    search_on_place(sheet, library, 1, center, center, radius, filter, list)
 }
 
 // Lists the marks on the cylinder in space whose axis goes through a and b: 24, 13, 16, 2, 3, 15, 14.
+#[tactic(auto, unfolding(crate::specs::Place::asked_of))]
 pub fn search_on_cylinder(
     sheet: GridSearch,
-    keys: &[u64],
-    ids: &[u64],
-    xs: &[f64],
-    ys: &[f64],
-    zs: &[f64],
-    used: usize,
+    library: Library,
     a: &[f64],
     b: &[f64],
     radius: f64,
     filter: Filter,
     list: &mut [u64],
-) -> Listed
-    ensures { Lists (listing sheet (library keys.now ids.now xs.now ys.now zs.now used)
-        (cylinder a.now b.now radius) filter list.old) result list.new }
+) -> Result<usize, Refusal>
+    ensures { Lists (listing sheet (lent library.entry) (cylinder a.now b.now radius) filter list.old) result list.new }
 {
-    search_on_place(
-        sheet, keys, ids, xs, ys, zs, used, 2, a, b, radius, filter, list,
-    )
-}
-
-// Lists the marks on the plane parallel to x and y at a z, in space: 24, 13, 16, 3, 14.
-pub fn search_on_plane_xy(
-    sheet: GridSearch,
-    keys: &[u64],
-    ids: &[u64],
-    xs: &[f64],
-    ys: &[f64],
-    zs: &[f64],
-    used: usize,
-    z: f64,
-    filter: Filter,
-    list: &mut [u64],
-) -> Listed
-    ensures { Lists (listing sheet (library keys.now ids.now xs.now ys.now zs.now used)
-        (plane 2 z) filter list.old) result list.new }
-{
-    search_on(
-        sheet,
-        keys,
-        ids,
-        xs,
-        ys,
-        zs,
-        used,
-        Place::PlaneXY(z),
-        filter,
-        list,
-    )
-}
-
-// Lists the marks on the plane parallel to y and z at an x, in space: 24, 13, 16, 3, 14.
-pub fn search_on_plane_yz(
-    sheet: GridSearch,
-    keys: &[u64],
-    ids: &[u64],
-    xs: &[f64],
-    ys: &[f64],
-    zs: &[f64],
-    used: usize,
-    x: f64,
-    filter: Filter,
-    list: &mut [u64],
-) -> Listed
-    ensures { Lists (listing sheet (library keys.now ids.now xs.now ys.now zs.now used)
-        (plane 0 x) filter list.old) result list.new }
-{
-    search_on(
-        sheet,
-        keys,
-        ids,
-        xs,
-        ys,
-        zs,
-        used,
-        Place::PlaneYZ(x),
-        filter,
-        list,
-    )
-}
-
-// Lists the marks on the plane parallel to x and z at a y, in space: 24, 13, 16, 3, 14.
-pub fn search_on_plane_xz(
-    sheet: GridSearch,
-    keys: &[u64],
-    ids: &[u64],
-    xs: &[f64],
-    ys: &[f64],
-    zs: &[f64],
-    used: usize,
-    y: f64,
-    filter: Filter,
-    list: &mut [u64],
-) -> Listed
-    ensures { Lists (listing sheet (library keys.now ids.now xs.now ys.now zs.now used)
-        (plane 1 y) filter list.old) result list.new }
-{
-    search_on(
-        sheet,
-        keys,
-        ids,
-        xs,
-        ys,
-        zs,
-        used,
-        Place::PlaneXZ(y),
-        filter,
-        list,
-    )
+    search_on_place(sheet, library, 2, a, b, radius, filter, list)
 }

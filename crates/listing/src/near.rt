@@ -2,21 +2,21 @@
 ghost use Rattle.std.specs.Prelude.{◌<◌, ◌≡◌, true, false, ◌&&◌, ◌⊎◌, Float};
 ghost use Rattle.std.specs.Float.{inf};
 ghost use Rattle.std.specs.Float.Ieee.{neg, le};
-ghost use Rattle.floats.specs.Rounded.{◌⊕◌};
 ghost use Rattle.floats.specs.Tests.{within};
-ghost use Rattle.geometry.specs.Position.{coords, dimension};
+ghost use Rattle.geometry.specs.Axes.{dimension};
+ghost use Rattle.geometry.specs.Position.{coords};
 ghost use Rattle.grid.specs.Divisions.{counts};
 ghost use Rattle.grid.specs.Containers.{containers};
 ghost use Rattle.listing.specs.Place.{asked, unfit, unfit_filter, place_distance, passes, container_near, point_near, centre_of};
 ghost use Rattle.windows.specs.Window.{lies};
 ghost use Rattle.rows.specs.Posts.{Divided};
-ghost use Rattle.listing.specs.Ready.{Lined, Windowed, Made};
+ghost use Rattle.listing.specs.Ready.{Lined, Windowed, MadeFor};
 
 use crate::{Filter, Place};
-use geometry::{Line, Position};
+use geometry::{Dimension, Line, Position};
 use grid::ContainerKey;
 use grid_search::GridSearch;
-use windows::{Distance, Window};
+use windows::Window;
 
 // A place made ready for many points: the line through its ends, and the windows for a container's centre and for a point.
 #[derive(Clone, Copy)]
@@ -30,68 +30,32 @@ pub(crate) struct Ready {
 // The window of the distances from a place that lie from one bound to another.
 fn window_of(place: Place, from: f64, to: f64) -> Window
     requires { (from ≡ inf true) ⊎ (from ≡ neg to) }
-    ensures fact_1 { Windowed place result }
-    ensures fact_2 { result.from ≡ from }
-    ensures fact_3 { result.to ≡ to }
+    ensures tells { Windowed place result }
+    ensures from { result.from ≡ from }
+    ensures to { result.to ≡ to }
 {
     match place {
-        Place::Line(_, _) => Window::new(Distance::Root, from, to),
-        Place::Circle(_, radius) => Window::new(Distance::RootLess(radius), from, to),
-        Place::Cylinder(_, _, radius) => Window::new(Distance::RootLess(radius), from, to),
-        Place::PlaneXY(_) => Window::untried(from, to),
-        Place::PlaneYZ(_) => Window::untried(from, to),
-        Place::PlaneXZ(_) => Window::untried(from, to),
+        Place::Line(_, _) => Window::new(None, from, to),
+        Place::Circle(_, radius) | Place::Cylinder(_, _, radius) => {
+            Window::new(Some(radius), from, to)
+        }
+        _ => Window::untried(from, to),
     }
 }
 
+const NOWHERE: Position = Position {
+    x: 0.0,
+    y: 0.0,
+    z: 0.0,
+};
+
 // The line through a place's ends. Of another place it is not used.
-fn line_of(ndim: usize, place: Place) -> Line
-    requires { dimension ndim ≡ true }
-    ensures { Lined ndim place result }
+fn line_of(ndim: Dimension, place: Place) -> Line
+    ensures { Lined ndim.n place result }
 {
     match place {
-        Place::Line(a, b) => Line::new(ndim, a, b),
-        Place::Circle(center, _) => Line::new(ndim, center, center),
-        Place::Cylinder(a, b, _) => Line::new(ndim, a, b),
-        Place::PlaneXY(_) => Line::new(
-            ndim,
-            Position {
-                x: 0.0,
-                y: 0.0,
-                z: 0.0,
-            },
-            Position {
-                x: 0.0,
-                y: 0.0,
-                z: 0.0,
-            },
-        ),
-        Place::PlaneYZ(_) => Line::new(
-            ndim,
-            Position {
-                x: 0.0,
-                y: 0.0,
-                z: 0.0,
-            },
-            Position {
-                x: 0.0,
-                y: 0.0,
-                z: 0.0,
-            },
-        ),
-        Place::PlaneXZ(_) => Line::new(
-            ndim,
-            Position {
-                x: 0.0,
-                y: 0.0,
-                z: 0.0,
-            },
-            Position {
-                x: 0.0,
-                y: 0.0,
-                z: 0.0,
-            },
-        ),
+        Place::Line(a, b) | Place::Cylinder(a, b, _) => Line::new(ndim, a, b),
+        _ => Line::new(ndim, NOWHERE, NOWHERE),
     }
 }
 
@@ -99,13 +63,13 @@ fn line_of(ndim: usize, place: Place) -> Line
 // whose magnitude is at most tol_dist.
 pub(crate) fn made_ready(sheet: GridSearch, place: Place) -> Ready
     requires { dimension sheet.ndim ≡ true }
-    ensures fact_1 { Made sheet.ndim (sheet.radius ⊕ sheet.tol_dist) sheet.tol_dist result }
-    ensures fact_2 { result.place ≡ place }
+    ensures made { MadeFor sheet result }
+    ensures place { result.place ≡ place }
 {
     let tol_dist = sheet.tol_dist;
     Ready {
         place,
-        line: line_of(sheet.ndim, place),
+        line: line_of(Dimension { n: sheet.ndim }, place),
         center: window_of(
             place,
             f64::from_bits(0xfff0_0000_0000_0000),
@@ -115,39 +79,37 @@ pub(crate) fn made_ready(sheet: GridSearch, place: Place) -> Ready
     }
 }
 
-// Whether the distance of a point lies in a window.
-fn point_lies(ndim: usize, place: Place, line: Line, w: Window, x: Position) -> bool
-    requires fact_1 { dimension ndim ≡ true }
-    requires fact_2 { unfit ndim (asked ndim place) ≡ false }
-    requires fact_3 { Lined ndim place line }
-    requires fact_4 { Windowed place w }
-    ensures { result ≡ lies w.from w.to (place_distance (asked ndim place) (coords ndim x)) }
+// Whether the distance of a point lies in a window. The place is told apart before the point is worked out: a plane takes one
+// coordinate of it, and the compiler leaves the others out. Of that one the magnitude is compared, since no branch on its side of
+// the plane could be foreseen.
+fn lies_at<F: Fn() -> Position>(
+    ndim: Dimension,
+    place: Place,
+    line: Line,
+    w: Window,
+    point: F,
+) -> bool
+    requires callable { F.IsAlwaysCallable point }
+    requires fit { unfit ndim.n (asked ndim.n place) ≡ false }
+    requires line { Lined ndim.n place line }
+    requires window { Windowed place w }
+    ensures { (x : Position) × (F.post point x × (result ≡ lies w.from w.to (place_distance (asked ndim.n place) (coords ndim.n x)))) }
 {
     match place {
-        Place::Line(_, _) => w.holds(Distance::Root, geometry::line_square(ndim, line, x)),
-        Place::Circle(center, radius) => {
-            w.holds(
-                Distance::RootLess(radius),
-                geometry::point_square(ndim, center, x),
-            )
-        }
-        Place::Cylinder(_, _, radius) => {
-            w.holds(
-                Distance::RootLess(radius),
-                geometry::line_square(ndim, line, x),
-            )
-        }
-        Place::PlaneXY(z) => floats::is_within(w.to, x.z - z),
-        Place::PlaneYZ(v) => floats::is_within(w.to, x.x - v),
-        Place::PlaneXZ(y) => floats::is_within(w.to, x.y - y),
+        Place::Line(_, _) => w.holds(geometry::line_square(ndim, line, point())),
+        Place::Circle(center, _) => w.holds(geometry::point_square(ndim, center, point())),
+        Place::Cylinder(_, _, _) => w.holds(geometry::line_square(ndim, line, point())),
+        Place::PlaneXY(z) => magnitude(point().z - z) <= w.to,
+        Place::PlaneYZ(x) => magnitude(point().x - x) <= w.to,
+        Place::PlaneXZ(y) => magnitude(point().y - y) <= w.to,
     }
 }
 
 // Whether the filter keeps a point.
-pub(crate) fn keeps(ndim: usize, filter: Filter, x: Position) -> bool
-    requires fact_1 { dimension ndim ≡ true }
-    requires fact_2 { unfit_filter ndim filter ≡ false }
-    ensures { result ≡ passes filter (coords ndim x) }
+#[tactic(auto, unfolding(crate::specs::Place::passes))]
+pub(crate) fn keeps(ndim: Dimension, filter: Filter, x: Position) -> bool
+    requires { unfit_filter ndim.n filter ≡ false }
+    ensures { result ≡ passes filter (coords ndim.n x) }
 {
     match filter {
         Filter::Everything => true,
@@ -167,63 +129,34 @@ fn magnitude(x: f64) -> f64
 
 // The centre of a container.
 fn center_of(sheet: GridSearch, key: ContainerKey) -> Position
-    requires fact_1 { Divided sheet }
-    requires fact_2 { key.0 < containers (counts sheet.ndim sheet.ndiv) }
+    requires divided { Divided sheet }
+    requires key { key.0 < containers (counts sheet.ndim sheet.ndiv) }
     ensures { coords sheet.ndim result ≡ centre_of sheet key.0 }
 {
-    grid::container_center(sheet.ndim, sheet.side_length, sheet.ndiv, sheet.xmin, key)
+    let ndim = Dimension { n: sheet.ndim };
+    grid::container_center(ndim, sheet.side_length, sheet.ndiv, sheet.xmin, key)
 }
 
-// Whether a container's centre is within container radius + tol_dist of the place, by the signed distance. The place is told apart
-// before the centre is worked out: a plane takes one coordinate of it, and the compiler leaves the others out. Of that one the
-// magnitude is compared, since no branch on its side of the plane could be foreseen.
+// Whether a container's centre is within container radius + tol_dist of the place, by the signed distance.
 pub(crate) fn container_near(sheet: GridSearch, r: Ready, key: ContainerKey) -> bool
-    requires divided_1 { Divided sheet }
-    requires divided_2 { unfit sheet.ndim (asked sheet.ndim r.place) ≡ false }
-    requires divided_3 { key.0 < containers (counts sheet.ndim sheet.ndiv) }
-    requires made { Made sheet.ndim (sheet.radius ⊕ sheet.tol_dist) sheet.tol_dist r }
+    requires divided { Divided sheet }
+    requires fit { unfit sheet.ndim (asked sheet.ndim r.place) ≡ false }
+    requires key { key.0 < containers (counts sheet.ndim sheet.ndiv) }
+    requires made { MadeFor sheet r }
     ensures { result ≡ container_near sheet (asked sheet.ndim r.place) key.0 }
 {
-    let ndim = sheet.ndim;
-    let place = r.place;
-    let line = r.line;
-    let w = r.center;
-    match place {
-        Place::Line(_, _) => {
-            w.holds(
-                Distance::Root,
-                geometry::line_square(ndim, line, center_of(sheet, key)),
-            )
-        }
-        Place::Circle(center, radius) => {
-            w.holds(
-                Distance::RootLess(radius),
-                geometry::point_square(ndim, center, center_of(sheet, key)),
-            )
-        }
-        Place::Cylinder(_, _, radius) => {
-            w.holds(
-                Distance::RootLess(radius),
-                geometry::line_square(ndim, line, center_of(sheet, key)),
-            )
-        }
-        Place::PlaneXY(z) => magnitude(center_of(sheet, key).z - z) <= w.to,
-        Place::PlaneYZ(x) => magnitude(center_of(sheet, key).x - x) <= w.to,
-        Place::PlaneXZ(y) => magnitude(center_of(sheet, key).y - y) <= w.to,
-    }
+    let ndim = Dimension { n: sheet.ndim };
+    lies_at(ndim, r.place, r.line, r.center, || center_of(sheet, key))
 }
 
 // Whether a point is within tol_dist of the place, by the magnitude of its distance, and kept by the filter.
 pub(crate) fn point_counts(sheet: GridSearch, r: Ready, filter: Filter, x: Position) -> bool
-    requires ndim_value_1 { dimension sheet.ndim ≡ true }
-    requires ndim_value_2 { unfit sheet.ndim (asked sheet.ndim r.place) ≡ false }
-    requires ndim_value_3 { unfit_filter sheet.ndim filter ≡ false }
-    requires made { Made sheet.ndim (sheet.radius ⊕ sheet.tol_dist) sheet.tol_dist r }
+    requires axes { dimension sheet.ndim ≡ true }
+    requires fit { unfit sheet.ndim (asked sheet.ndim r.place) ≡ false }
+    requires filter { unfit_filter sheet.ndim filter ≡ false }
+    requires made { MadeFor sheet r }
     ensures { result ≡ (point_near sheet (asked sheet.ndim r.place) (coords sheet.ndim x) && passes filter (coords sheet.ndim x)) }
 {
-    let ndim = sheet.ndim;
-    let place = r.place;
-    let line = r.line;
-    let w = r.point;
-    point_lies(ndim, place, line, w, x) & keeps(ndim, filter, x)
+    let ndim = Dimension { n: sheet.ndim };
+    lies_at(ndim, r.place, r.line, r.point, || x) & keeps(ndim, filter, x)
 }

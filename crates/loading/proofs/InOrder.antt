@@ -3,24 +3,20 @@
 use Prim.Native.Nat.{ℕ, suc, ◌+◌, ◌≤◌, ◌<◌}
 use native.Mathlib.Numerals.{add-one}
 use native.Mathlib.Omega.{arith}
-use mathlib.Core.Path.{◌≡◌, refl, sym, ap, ◌∙◌, subst}
+use mathlib.Core.Path.{◌≡◌, refl, sym, ap, ◌∙◌}
 use mathlib.Core.Option.{none}
 use mathlib.Core.List.{List, [], ◌∷◌}
 use lib.ListN.{drop, drop_of_length-le}
-use lib.Ieee.{Float}
 use Rattle.basics.specs.Lists.{tab}
 use Rattle.basics.proofs.Lists.{length-tab, drop-tab}
 use Rattle.basics.specs.Refusals.{Answer, refused, success, fault}
 use Rattle.grid_search.specs.declared.GridSearch.{GridSearch}
-use Rattle.rows.specs.declared.Inserted.{Inserted}
-use Rattle.rows.specs.declared.Inserted.TheVariants.{Stored, Refused}
-use Rattle.table.specs.Library.{Library, library}
+use Rattle.table.specs.Library.{Library}
 use Rattle.rows.specs.Damage.{library_tests}
 use Rattle.rows.specs.Turn.{Turn, Gives}
-use Rattle.rows.specs.Insert.{inserted, used_after}
 use Rattle.rows.proofs.Kept.{insertion-passes}
 use Rattle.records.specs.declared.Record.{Record}
-use Rattle.loading.specs.Loading.{place_of, insert_one, and_then, insert_all, Inserts}
+use Rattle.loading.specs.Loading.{place_of, insert_one, and_then, insert_all}
 
 -- ---- turns
 
@@ -82,25 +78,20 @@ module _ {A : Type 0} (one : Library → A → Turn ℕ) (count : ℕ) (item : �
     now_it = g.ahead ∙ ap (insert_all one l) (drop-tab count item i h) ∙ all_cons one l (item i) (drop (suc i) (tab count item))
 
     -- what its turn gives
-    module _ {keys ids : List ℕ} {xs ys zs : List Float} (used : ℕ) (r : Inserted) (t : Gives (one l (item i)) (inserted r) (library keys ids xs ys zs (used_after r used))) where
-      given : (q : Inserted) → r ≡ q → Gives (one l (item i)) (inserted q) (library keys ids xs ys zs (used_after q used))
-      given q e = subst (λ (x : Inserted). Gives (one l (item i)) (inserted x) (library keys ids xs ys zs (used_after x used))) e t
-
+    module _ {after : Library} where
       -- it is stored: go on
-      pub goes_on : (n : ℕ) → r ≡ Stored n → Going one count item l₀ (library keys ids xs ys zs n) (i + 1)
-      goes_on n e =
-          let u = given (Stored n) e in
+      pub goes_on : (n : ℕ) → Gives (one l (item i)) (success n) after → Going one count item l₀ after (i + 1)
+      goes_on n u =
           record {
             upto = omega arith;
             ahead = now_it ∙ then-success (one l (item i)) (insert_all one (one l (item i)).library (drop (suc i) (tab count item))) n (sym u.answers) ∙ rw (sym u.library-is, add-one);
           }
 
       -- it is turned away: that is the answer
-      pub stops : (n : ℕ) → r ≡ Refused n → Inserts (insert_all one l₀ (tab count item)) (Refused n) (library keys ids xs ys zs)
-      stops n e =
-          let u = given (Refused n) e in
+      pub stops : (n : ℕ) → Gives (one l (item i)) (refused n) after → Gives (insert_all one l₀ (tab count item)) (refused n) after
+      stops n u =
           let whole : insert_all one l₀ (tab count item) ≡ one l (item i) = now_it ∙ then-refused (one l (item i)) (insert_all one (one l (item i)).library (drop (suc i) (tab count item))) n (sym u.answers) in
-          rw whole (record { answers = u.answers; library-is = ap (λ (m : Library). library keys ids xs ys zs m.used) (sym u.library-is) ∙ u.library-is })
+          rw whole u
 
   -- all are stored
   pub all-taken : (l₀ l : Library) {i : ℕ} → Going one count item l₀ l i → count ≤ i → insert_all one l₀ (tab count item) ≡ record { library = l; answer = success l.used }

@@ -7,19 +7,17 @@ use mathlib.Core.Path.{◌≡◌, refl, sym, ap, ◌∙◌, subst}
 use mathlib.Core.Option.{Option, none, some}
 use mathlib.Core.List.{List}
 use lib.ListN.{length, take, drop}
-use lib.Ieee.{Float}
 use borrow.Author.Tests.{ne_eqb}
 use Rattle.basics.specs.Lists.{tab}
 use Rattle.basics.specs.Refusals.{Answer, refused, success, fault}
 use Rattle.grid_search.specs.declared.GridSearch.{GridSearch}
-use Rattle.rows.specs.declared.Inserted.TheVariants.{Stored, Refused}
-use Rattle.table.specs.Library.{Library, library}
+use Rattle.table.specs.Library.{Library}
 use Rattle.rows.specs.Damage.{library_tests}
 use Rattle.rows.specs.Turn.{Turn, Gives}
 use Rattle.rows.specs.Insert.{insertion}
 use Rattle.records.specs.declared.Record.{Record}
 use Rattle.records.specs.Records.{reading}
-use Rattle.loading.specs.Loading.{place_of, unless, records_of, insert_mark, insert_record, and_then, insert_all, leftover, finish, insert_bytes, Inserts}
+use Rattle.loading.specs.Loading.{place_of, unless, records_of, insert_mark, insert_record, and_then, insert_all, leftover, finish, insert_bytes}
 use Rattle.loading.proofs.Chunks.{bytes-are, leftover-none}
 use Rattle.loading.proofs.InOrder.{no, all-used, all_sound, one-sound, Going, all-taken}
 
@@ -74,21 +72,20 @@ module _ (width : ℕ) (s : GridSearch) (bytes : List ℕ) (l₀ : Library) wher
   ends = bytes-are s width l₀ bytes
 
   -- one is turned away: that is the answer
-  pub stopped : (n : ℕ) {keys ids : List ℕ} {xs ys zs : List Float} → Inserts marks (Refused n) (library keys ids xs ys zs) → Inserts (insert_bytes width s l₀ bytes) (Refused n) (library keys ids xs ys zs)
+  pub stopped : (n : ℕ) {after : Library} → Gives marks (refused n) after → Gives (insert_bytes width s l₀ bytes) (refused n) after
   stopped n t = rw (ends, finish-refused (leftover width bytes) marks n (sym t.answers)) t
 
   -- all are stored: the bytes left over decide
-  module _ {keys ids : List ℕ} {xs ys zs : List Float} {used i : ℕ} (g : GoingOn width s bytes l₀ (library keys ids xs ys zs used) i) (h : length bytes / width ≤ i) where
-    the_end : insert_bytes width s l₀ bytes ≡ record { library = library keys ids xs ys zs used; answer = unless (leftover width bytes) (success used) }
+  module _ {l : Library} {i : ℕ} (g : GoingOn width s bytes l₀ l i) (h : length bytes / width ≤ i) where
+    the_end : insert_bytes width s l₀ bytes ≡ record { library = l; answer = unless (leftover width bytes) (success l.used) }
     the_end =
-        let l = library keys ids xs ys zs used in
-        ends ∙ ap (finish (leftover width bytes)) (all-taken (insert_record s) (length bytes / width) (record_from width bytes) l₀ l g h) ∙ finish-success (leftover width bytes) l used
+        ends ∙ ap (finish (leftover width bytes)) (all-taken (insert_record s) (length bytes / width) (record_from width bytes) l₀ l g h) ∙ finish-success (leftover width bytes) l l.used
 
-    pub all_stored : length bytes / width * width ≡ length bytes → Inserts (insert_bytes width s l₀ bytes) (Stored used) (library keys ids xs ys zs)
+    pub all_stored : length bytes / width * width ≡ length bytes → Gives (insert_bytes width s l₀ bytes) (success l.used) l
     unfolding unless
     all_stored e = rw (the_end, none_over width bytes e) (record { answers = refl; library-is = refl })
 
-    pub left_over : (length bytes / width * width ≡ length bytes → ⊥) → Inserts (insert_bytes width s l₀ bytes) (Refused 13) (library keys ids xs ys zs)
+    pub left_over : (length bytes / width * width ≡ length bytes → ⊥) → Gives (insert_bytes width s l₀ bytes) (refused 13) l
     unfolding unless
     left_over e = rw (the_end, some-over width bytes e) (record { answers = refl; library-is = refl })
 

@@ -10,8 +10,7 @@ use lib.ListN.{length}
 use borrow.Author.Tests.{eq-eqb, ne_eqb}
 use Rattle.basics.specs.Refusals.{Answer, refused, success, fault}
 use Rattle.geometry.specs.Position.{dimension}
-use Rattle.grid_search.specs.declared.GivenU64.TheVariants as number
-use Rattle.grid_search.specs.declared.GivenF64.TheVariants as float
+use Rattle.std.specs.Prelude.{Some, None}
 use Rattle.grid_search.specs.declared.GridSearch.{GridSearch}
 use Rattle.grid_search.specs.Sheet.{new_sheet, sheet_ok}
 use Rattle.grid_search.proofs.Remade.{made-good}
@@ -30,7 +29,7 @@ module _ (bytes : List ℕ) where
     no_dimension d = rw (sym first, eq-eqb (length bytes) 64 e, d)
 
     pub from_records : dimension low.id ≡ true
-        → new_sheet (place_of low.id low) (place_of low.id high) (number.Given high.id) float.LeftOut float.LeftOut ≡ sheet_of_records bytes
+        → new_sheet (place_of low.id low) (place_of low.id high) (Some high.id) None None ≡ sheet_of_records bytes
     unfolding sheet_of_records file_tests fault unless
     from_records d = rw (sym first, sym second, eq-eqb (length bytes) 64 e, d)
 
@@ -47,5 +46,5 @@ sheet-good none s e = absurd (let z : ◌≡◌ {A = ℕ} 0 1 = cc in omega arit
 sheet-good (some bytes) s e =
     let low = record_at bytes 0 in
     let high = record_at bytes 32 in
-    let new = new_sheet (place_of low.id low) (place_of low.id high) (number.Given high.id) float.LeftOut float.LeftOut in
-    made-good (place_of low.id low) (place_of low.id high) (number.Given high.id) float.LeftOut float.LeftOut s (made-success (fault (file_tests bytes)) new s e)
+    let new = new_sheet (place_of low.id low) (place_of low.id high) (Some high.id) None None in
+    made-good (place_of low.id low) (place_of low.id high) (Some high.id) None None s (made-success (fault (file_tests bytes)) new s e)

@@ -1,15 +1,13 @@
 -- A sheet and marks from the bytes of their files.
 -- Assumes nothing.
-use Rattle.std.specs.Prelude.{ℕ, ◌*◌, ◌/◌, ◌%◌, not, List, [], ◌∷◌, eqb, length, take, drop, Float}
+use Rattle.std.specs.Prelude.{ℕ, ◌*◌, ◌/◌, ◌%◌, not, List, [], ◌∷◌, eqb, length, take, drop, Float, Result, Some, None}
 use Rattle.std.proofs.Math.Option.{Option, none, some}
 use Rattle.basics.specs.Lists.{tab}
 use Rattle.basics.specs.Refusals.{Test, refuse, fault, Answer, refused, success}
 use Rattle.geometry.specs.Position.{coords, dimension}
-use Rattle.grid_search.specs.declared.GivenU64.TheVariants as number
-use Rattle.grid_search.specs.declared.GivenF64.TheVariants as float
 use Rattle.grid_search.specs.declared.GridSearch.{GridSearch}
 use Rattle.grid_search.specs.Sheet.{new_sheet}
-use Rattle.rows.specs.declared.Inserted.{Inserted}
+use Rattle.basics.specs.declared.Refusal.{Refusal}
 use Rattle.table.specs.Library.{Library}
 use Rattle.rows.specs.Turn.{Turn, Gives}
 use Rattle.rows.specs.Insert.{insertion, inserted}
@@ -38,7 +36,7 @@ sheet_of_records bytes =
     let low = record_at bytes 0 in
     let high = record_at bytes 32 in
     unless (fault (file_tests bytes))
-    (new_sheet (place_of low.id low) (place_of low.id high) (number.Given high.id) float.LeftOut float.LeftOut)
+    (new_sheet (place_of low.id low) (place_of low.id high) (Some high.id) None None)
 
 -- the sheet of what the file holds; none: a file that is missing or cannot be read
 unfoldable pub sheet_in : Option (List ℕ) → Answer GridSearch
@@ -91,7 +89,6 @@ unfoldable pub insert_bytes : ℕ → GridSearch → Library → List ℕ → Tu
 unfolding finish leftover insert_all insert_record records_of
 insert_bytes width s l bytes = finish (leftover width bytes) (insert_all (insert_record s) l (records_of width bytes))
 
--- What is returned, and what the lists hold once several marks are inserted. After a refusal the rows in use are those of the marks before
--- it: `lists` is the library at exit but for that count.
-abbrev pub Inserts : Turn ℕ → Inserted → (ℕ → Library) → Type 0
-Inserts t r lists = Gives t (inserted r) (lists t.library.used)
+-- What is returned, and the library at exit, once several marks are inserted. After a refusal the rows in use are those of the marks before it.
+abbrev pub Inserts : Turn ℕ → Result ℕ Refusal → Library → Type 0
+Inserts t r after = Gives t (inserted r) after

@@ -5,86 +5,65 @@ ghost use Rattle.std.specs.Prelude.{◌/◌, ◌≤◌, ◌≡◌, length};
 ghost use Rattle.geometry.specs.declared.Position.{Position};
 ghost use Rattle.geometry.specs.Position.{coords};
 ghost use Rattle.grid_search.specs.Sheet.{made};
-ghost use Rattle.table.specs.Library.{library};
+ghost use Rattle.table.specs.Lent.{lent_mut, SameLists};
 ghost use Rattle.rows.specs.Turn.{Gives};
-ghost use Rattle.rows.specs.Insert.{inserted, used_after};
+ghost use Rattle.rows.specs.Insert.{inserted};
 ghost use Rattle.loading.specs.Loading.{sheet_of_records, insert_one, insert_record, insert_bytes, Inserts};
 
-use grid_search::{GivenF64, GivenU64, GridSearch, Made};
-use records::{ReadRecord, Record};
-use rows::Inserted;
-use table::ItemId;
+use basics::Refusal;
+use geometry::Dimension;
+use grid_search::GridSearch;
+use records::Record;
+use table::{ItemId, LibraryMut};
 
 // The sheet of two records: dimension and low corner, divisions and high corner. In 2D the third floats are not read.
-pub fn sheet_of_records(bytes: &[u8]) -> Made
+pub fn sheet_of_records(bytes: &[u8]) -> Result<GridSearch, Refusal>
     ensures { made result ≡ sheet_of_records bytes.now }
 {
     if bytes.len() != 64 {
-        return Made::Refused(13);
+        return Err(Refusal::Damaged);
     }
     let low = records::record_at(bytes, 0);
     let high = records::record_at(bytes, 32);
-    let ndim = low.id as usize;
-    if !geometry::is_dimension(ndim) {
-        return Made::Refused(1);
-    }
+    let ndim = Dimension::try_from(low.id as usize)?;
     let xmin = [low.x, low.y, low.z];
     let xmax = [high.x, high.y, high.z];
-    GridSearch::new(
-        &xmin[..ndim],
-        &xmax[..ndim],
-        GivenU64::Given(high.id),
-        GivenF64::LeftOut,
-        GivenF64::LeftOut,
-    )
+    GridSearch::new(&xmin[..ndim.n], &xmax[..ndim.n], Some(high.id), None, None)
 }
 
 // How many of a record's floats stand for axes.
 fn floats_read(ndim: usize) -> usize
-    ensures fact_1 { result ≤ 3 }
-    ensures fact_2 { ((p : Position) → coords result p ≡ coords ndim p) }
+    ensures most { result ≤ 3 }
+    ensures same { ((p : Position) → coords result p ≡ coords ndim p) }
 {
-    if ndim < 3 { ndim } else { 3 }
+    ndim.min(3)
 }
 
 // Inserts a mark. In 2D its third float is not read.
 pub fn insert_mark(
     sheet: GridSearch,
-    keys: &mut [u64; 1024],
-    ids: &mut [u64; 1024],
-    xs: &mut [f64; 1024],
-    ys: &mut [f64; 1024],
-    zs: &mut [f64; 1024],
-    used: usize,
+    library: &mut LibraryMut,
     mark: Record,
-) -> Inserted
-    ensures { Gives (insert_one sheet (library keys.old ids.old xs.old ys.old zs.old used) mark)
-        (inserted result) (library keys.new ids.new xs.new ys.new zs.new (used_after result used)) }
+) -> Result<usize, Refusal>
+    ensures inserts { Gives (insert_one sheet (lent_mut library.old) mark) (inserted result) (lent_mut library.new) }
+    ensures same_lists { SameLists library.old library.new }
 {
     let x = [mark.x, mark.y, mark.z];
     let n = floats_read(sheet.ndim);
-    rows::insert(sheet, keys, ids, xs, ys, zs, used, ItemId(mark.id), &x[..n])
+    rows::insert(sheet, library, ItemId(mark.id), &x[..n])
 }
 
 // Inserts the mark of a record of a file: 13 where the bytes are no record.
 pub fn insert_record(
     sheet: GridSearch,
-    keys: &mut [u64; 1024],
-    ids: &mut [u64; 1024],
-    xs: &mut [f64; 1024],
-    ys: &mut [f64; 1024],
-    zs: &mut [f64; 1024],
-    used: usize,
+    library: &mut LibraryMut,
     bytes: &[u8],
-) -> Inserted
-    ensures { Gives (insert_record sheet (library keys.old ids.old xs.old ys.old zs.old used) bytes.now)
-        (inserted result) (library keys.new ids.new xs.new ys.new zs.new (used_after result used)) }
+) -> Result<usize, Refusal>
+    ensures inserts { Gives (insert_record sheet (lent_mut library.old) bytes.now) (inserted result) (lent_mut library.new) }
+    ensures same_lists { SameLists library.old library.new }
 {
-    let read = records::read_record(bytes);
-    match read {
-        ReadRecord::Whole(mark) => insert_mark(sheet, keys, ids, xs, ys, zs, used, mark),
-        ReadRecord::Refused(number) => Inserted::Refused(number),
-    }
+    let mark = Record::try_from(bytes)?;
+    insert_mark(sheet, library, mark)
 }
 
 // How many whole records of a width the bytes hold: none of width 0.
@@ -98,32 +77,20 @@ fn count_records(bytes: &[u8], width: usize) -> usize
 // judged last. A file of any length is inserted part by part, each but the last of whole records.
 pub fn insert_records(
     sheet: GridSearch,
-    keys: &mut [u64; 1024],
-    ids: &mut [u64; 1024],
-    xs: &mut [f64; 1024],
-    ys: &mut [f64; 1024],
-    zs: &mut [f64; 1024],
-    used: usize,
+    library: &mut LibraryMut,
     bytes: &[u8],
     width: usize,
-) -> Inserted
-    ensures { Inserts (insert_bytes width sheet (library keys.old ids.old xs.old ys.old zs.old used) bytes.now)
-        result (library keys.new ids.new xs.new ys.new zs.new) }
+) -> Result<usize, Refusal>
+    ensures inserts { Inserts (insert_bytes width sheet (lent_mut library.old) bytes.now) result (lent_mut library.new) }
+    ensures same_lists { SameLists library.old library.new }
 {
     let count = count_records(bytes, width);
-    let mut rows = used;
-    let mut i = 0;
-    while i < count {
+    for i in 0..count {
         let at = i * width;
-        let answer = insert_record(sheet, keys, ids, xs, ys, zs, rows, &bytes[at..at + width]);
-        let Inserted::Stored(n) = answer else {
-            return answer;
-        };
-        rows = n;
-        i += 1;
+        insert_record(sheet, library, &bytes[at..at + width])?;
     }
     if count * width != bytes.len() {
-        return Inserted::Refused(13);
+        return Err(Refusal::Damaged);
     }
-    Inserted::Stored(rows)
+    Ok(library.used)
 }

@@ -2,22 +2,20 @@
 -- Assumes nothing.
 use Prim.Native.Nat.{ℕ, suc, ◌+◌, ◌≤◌, ◌<◌}
 use native.Mathlib.Nat.{le_of_suc-le-suc, not-suc-le-zero}
-use native.Mathlib.Numerals.{add-one}
 use native.Mathlib.Omega.{arith}
 use mathlib.Core.Path.{◌≡◌, refl, sym, ap, ◌∙◌}
-use mathlib.Core.Bool.{true, not}
+use mathlib.Core.Bool.{true}
 use mathlib.Core.List.{List, [], ◌∷◌, ◌++◌, map, map-append}
-use lib.ListN.{length, get_or, take, drop, set, length-map}
-use lib.Seq.{take-suc, length-take-le}
+use lib.ListN.{length, get_or, take, drop, set, length-map, length-append}
+use lib.Seq.{length-take-le}
+use Rattle.std.proofs.lemmas.List.{take_more}
 use lib.Ieee.{Float}
 use Rattle.basics.specs.Lists.{over}
-use Rattle.basics.specs.Refusals.{refuse}
 use Rattle.basics.proofs.Lists.{length-tab, get_or-tab, drop-tab}
-use Rattle.table.specs.Posts.{written}
 use Rattle.table.proofs.Libraries.{long, length_over}
 use Rattle.records.specs.declared.Record.{Record}
-use Rattle.mark_lists.specs.MarkLists.{MarkList, mark_list, mark_at, marks_in, write_marks, mark_lengths, too_many, same_lengths, holds}
-use Rattle.mark_lists.specs.Posts.{lists_tests, Room, lists_of, each_of}
+use Rattle.mark_lists.specs.MarkLists.{MarkList, mark_list, mark_at, marks_in, write_marks, mark_lengths, same_lengths, holds}
+use Rattle.mark_lists.specs.Posts.{Room, pushed}
 
 -- ---- the marks in use
 
@@ -39,10 +37,6 @@ module _ (l : MarkList) where
   no_marks e = rw e
 
   -- ---- the room that was lent
-
-  pub lists_tests_lem : lists_tests (mark_lengths l) ≡ refuse 24 (too_many l) ∷ refuse 13 (not (same_lengths l)) ∷ []
-  unfolding lists_tests too_many same_lengths
-  lists_tests_lem = refl
 
   pub room : (n : ℕ) → same_lengths l ≡ true → holds l n ≡ true → Room l n
   unfolding same_lengths holds
@@ -77,7 +71,7 @@ lengths-written marks l h =
 -- ---- one mark after the other
 
 -- none is written yet
-pub none_written : (l : MarkList) → lists_of l ≡ lists_of (write_marks [] l)
+pub none_written : (l : MarkList) → mark_list l.ids l.xs l.ys l.zs 0 ≡ write_marks [] l
 unfolding write_marks over
 none_written l = refl
 
@@ -89,25 +83,25 @@ over_more [] (x ∷ c) v h = refl
 over_more (w ∷ vs) [] v h = absurd (not-suc-le-zero h)
 over_more {A} (w ∷ vs) (x ∷ c) v h = ap (λ (r : List A). w ∷ r) (over_more vs c v (le_of_suc-le-suc h))
 
--- a mark at the index past those that stand
-pub one_more : (marks : List Record) (m : Record) (l : MarkList) (i : ℕ) → length marks ≡ i → Room l (i + 1)
-    → each_of (written i) m (lists_of (write_marks marks l)) ≡ lists_of (write_marks (marks ++ m ∷ []) l)
+-- a mark behind those that stand
+pub one_more : (marks : List Record) (m : Record) (l : MarkList) → Room l (length marks + 1) → pushed m (write_marks marks l) ≡ write_marks (marks ++ m ∷ []) l
 unfolding write_marks
-one_more marks m l i e h = λ k. mark_list
+one_more marks m l h = λ k. mark_list
     (stored (λ (r : Record). r.id) l.ids h.0 k)
     (stored (λ (r : Record). r.x) l.xs h.1.0 k)
     (stored (λ (r : Record). r.y) l.ys h.1.1.0 k)
     (stored (λ (r : Record). r.z) l.zs h.1.1.1.0 k)
-    0
+    (sym (length-append marks (m ∷ [])) k)
   where
-    stored : {A : Type 0} (f : Record → A) (c : List A) → i + 1 ≤ length c → set (over (map f marks) c) i (f m) ≡ over (map f (marks ++ m ∷ [])) c
+    stored : {A : Type 0} (f : Record → A) (c : List A) → length marks + 1 ≤ length c → set (over (map f marks) c) (length marks) (f m) ≡ over (map f (marks ++ m ∷ [])) c
     stored {A} f c g =
-        let n : length (map f marks) ≡ i = length-map marks f ∙ e in
-        ap (λ (j : ℕ). set (over (map f marks) c) j (f m)) (sym n)
-        ∙ over_more (map f marks) c (f m) (omega arith)
+        ap (λ (j : ℕ). set (over (map f marks) c) j (f m)) (sym (length-map marks f))
+        ∙ over_more (map f marks) c (f m) (omega (arith, length-map marks f))
         ∙ ap (λ (r : List A). over r c) (sym (map-append f marks (m ∷ [])))
 
 -- the same along a list of marks, of which the first i stand
 pub next-written : (marks : List Record) (d : Record) (l : MarkList) (i : ℕ) → i < length marks → Room l (i + 1)
-    → each_of (written i) (get_or marks i d) (lists_of (write_marks (take i marks) l)) ≡ lists_of (write_marks (take (i + 1) marks) l)
-next-written marks d l i h g = rw (add-one, take-suc marks i d h) (one_more (take i marks) (get_or marks i d) l i (length-take-le i marks (omega arith)) g)
+    → pushed (get_or marks i d) (write_marks (take i marks) l) ≡ write_marks (take (i + 1) marks) l
+next-written marks d l i h g =
+    let n : length (take i marks) ≡ i = length-take-le i marks (omega arith) in
+    one_more (take i marks) (get_or marks i d) l (rw n g) ∙ ap (λ (ms : List Record). write_marks ms l) (sym (take_more marks i d h))

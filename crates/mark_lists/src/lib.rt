@@ -1,58 +1,114 @@
 // Marks in lent lists: four slices of one length, a mark being an entry of each. A mark is of the type of a record of the files.
 #![tactic(auto)]
 
-ghost use Rattle.std.specs.Prelude.{◌+◌, ◌≡◌, [], ◌∷◌};
-ghost use Rattle.basics.specs.Refusals.{fault, code};
-ghost use Rattle.table.specs.Posts.{written};
-ghost use Rattle.mark_lists.specs.MarkLists.{mark_at};
-ghost use Rattle.mark_lists.specs.Posts.{lists_tests, Room, lists, each_of};
+ghost use Rattle.std.specs.Prelude.{◌≡◌, ◌+◌};
+ghost use Rattle.basics.specs.Refusals.{fault};
+ghost use Rattle.basics.specs.Answers.{fault_in};
+ghost use Rattle.mark_lists.specs.MarkLists.{mark_at, mark_lengths, too_many, same_lengths};
+ghost use Rattle.mark_lists.specs.Posts.{lists_tests, Room, pushed};
+ghost use Rattle.mark_lists.specs.Lent.{lent, lent_mut, SameLists};
 
+use basics::Refusal;
 use records::Record;
 
 // The most entries that a lent list of marks may have: marks count as rows.
 const MAX_MARKS: usize = 65536;
 
-// What turns lists of so many entries away: 24, 13, or 0.
-pub fn lists_fault(ids: usize, xs: usize, ys: usize, zs: usize) -> u64
-    ensures { result ≡ code (fault (lists_tests (ids ∷ xs ∷ ys ∷ zs ∷ []))) }
-{
-    if (MAX_MARKS < ids) | ((MAX_MARKS < xs) | ((MAX_MARKS < ys) | (MAX_MARKS < zs))) {
-        return 24;
-    }
-    if (xs == ids) & ((ys == ids) & (zs == ids)) {
-        return 0;
-    }
-    13
+// Marks that are lent to be read.
+#[derive(Clone, Copy)]
+pub struct MarkLists<'a> {
+    pub ids: &'a [u64],
+    pub xs: &'a [f64],
+    pub ys: &'a [f64],
+    pub zs: &'a [f64],
+    pub used: usize,
 }
 
-// The mark at an index.
-pub fn mark_at(ids: &[u64], xs: &[f64], ys: &[f64], zs: &[f64], i: usize) -> Record
-    requires { Room (lists ids.now xs.now ys.now zs.now) (i + 1) }
-    ensures { result ≡ mark_at (lists ids.now xs.now ys.now zs.now) i }
-{
-    Record {
-        id: ids[i],
-        x: xs[i],
-        y: ys[i],
-        z: zs[i],
+impl MarkLists<'_> {
+    // How many entries each list has.
+    fn lengths(self) -> [usize; 4]
+        ensures { result ≡ mark_lengths (lent self.entry) }
+    {
+        [self.ids.len(), self.xs.len(), self.ys.len(), self.zs.len()]
+    }
+
+    #[tactic(auto, unfolding(crate::specs::MarkLists::too_many, basics::specs::Lists::any))]
+    fn are_too_long(self) -> bool
+        ensures { result ≡ too_many (lent self.entry) }
+    {
+        self.lengths().iter().any(|n| MAX_MARKS < *n)
+    }
+
+    #[tactic(auto, unfolding(crate::specs::MarkLists::same_lengths, table::specs::Library::level, basics::specs::Lists::all))]
+    fn are_level(self) -> bool
+        ensures { result ≡ same_lengths (lent self.entry) }
+    {
+        let n = self.ids.len();
+        self.lengths()[1..].iter().all(|m| *m == n)
+    }
+
+    // What turns the lists away: 24 or 13.
+    #[tactic(auto, unfolding(crate::specs::Posts::lists_tests, basics::specs::Refusals::fault))]
+    pub fn fault(self) -> Result<(), Refusal>
+        ensures { fault_in result ≡ fault (lists_tests (lent self.entry)) }
+    {
+        if self.are_too_long() {
+            return Err(Refusal::TooLong);
+        }
+        if !self.are_level() {
+            return Err(Refusal::Damaged);
+        }
+        Ok(())
+    }
+
+    // The mark at an index.
+    pub fn mark(self, i: usize) -> Record
+        requires { Room (lent self) (i + 1) }
+        ensures { result ≡ mark_at (lent self.entry) i }
+    {
+        Record {
+            id: self.ids[i],
+            x: self.xs[i],
+            y: self.ys[i],
+            z: self.zs[i],
+        }
     }
 }
 
-// Writes a mark at an index.
-pub fn write_mark(
-    ids: &mut [u64],
-    xs: &mut [f64],
-    ys: &mut [f64],
-    zs: &mut [f64],
-    i: usize,
-    mark: Record,
-)
-    requires { Room (lists ids.old xs.old ys.old zs.old) (i + 1) }
-    ensures { lists ids.new xs.new ys.new zs.new
-        ≡ each_of (written i) mark (lists ids.old xs.old ys.old zs.old) }
-{
-    ids[i] = mark.id;
-    xs[i] = mark.x;
-    ys[i] = mark.y;
-    zs[i] = mark.z;
+// Marks that are lent to be changed.
+#[derive(Drop)]
+pub struct MarkListsMut<'a> {
+    pub ids: &'a mut [u64],
+    pub xs: &'a mut [f64],
+    pub ys: &'a mut [f64],
+    pub zs: &'a mut [f64],
+    pub used: usize,
+}
+
+impl MarkListsMut<'_> {
+    // The same marks, to be read.
+    pub fn as_lists(&self) -> MarkLists<'_>
+        ensures { lent result ≡ lent_mut self.now }
+    {
+        MarkLists {
+            ids: self.ids,
+            xs: self.xs,
+            ys: self.ys,
+            zs: self.zs,
+            used: self.used,
+        }
+    }
+
+    // Puts a mark behind those in use.
+    pub fn push(&mut self, mark: Record)
+        requires { Room (lent_mut self.old) (self.old.used + 1) }
+        ensures pushes { lent_mut self.new ≡ pushed mark (lent_mut self.old) }
+        ensures same_lists { SameLists self.old self.new }
+    {
+        self.ids[self.used] = mark.id;
+        self.xs[self.used] = mark.x;
+        self.ys[self.used] = mark.y;
+        self.zs[self.used] = mark.z;
+        self.used += 1;
+    }
 }

@@ -4,19 +4,26 @@ use Prim.Native.Nat.{ℕ, ◌+◌, ◌*◌, ◌/◌, ◌%◌, ◌≤◌, ◌<◌
 use native.Mathlib.Nat.{le-div_iff_mul-le, suc-mul}
 use native.Mathlib.Numerals.{add-one}
 use native.Mathlib.Omega.{arith}
-use mathlib.Core.Path.{◌≡◌}
-use mathlib.Core.Bool.{true, not}
+use mathlib.Core.Path.{◌≡◌, refl, ap}
+use mathlib.Core.Bool.{Bool, true, not, ◌&&◌}
 use mathlib.Core.List.{List, [], ◌∷◌}
 use lib.Dec.{ltb, eqb}
 use lib.ListN.{length, get_or, take, drop, length-take, length-drop, drop_of_length-le}
 use lib.Seq.{drop-cons, get_or-take, get_or-drop, ext_get_or}
 use lib.Ieee.{Float, nan}
+use Rattle.std.specs.List.{list_all}
 use borrow.Author.Tests.{ltb-true, not-false}
 use Rattle.basics.proofs.Bools.{or_right}
 use Rattle.basics.specs.Lists.{all, tab}
 use Rattle.basics.proofs.Lists.{all_at, length-tab, get_or-tab, map-tab}
 use Rattle.geometry.proofs.Axes.{few-axes}
 use Rattle.mesh.specs.Mesh.{Mesh, point_count, cell_count, broken_mesh, Whole, point_at, corners_of, corner_points}
+
+-- the library's word for a test of each entry is document 01's
+pub all-list : {A : Type 0} (p : A → Bool) (xs : List A) → all p xs ≡ list_all p xs
+unfolding all
+all-list p [] = refl
+all-list p (x ∷ xs) = ap (λ (b : Bool). p x && b) (all-list p xs)
 
 -- the whole parts of a list
 whole_parts : (d x n : ℕ) → 0 < d → x < n / d → x * d + d ≤ n

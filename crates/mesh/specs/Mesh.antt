@@ -8,6 +8,7 @@ use Rattle.geometry.specs.Position.{coords, dimension}
 use Rattle.geometry.specs.Distances.{from}
 use Rattle.grid_search.specs.Sheet.{largest}
 use Rattle.mesh.specs.declared.BoundingBox.{BoundingBox}
+use Rattle.mesh.specs.declared.Mesh.{Mesh as MeshView}
 
 pub record Mesh : Type 0 where
   pub points : List Float
@@ -15,6 +16,10 @@ pub record Mesh : Type 0 where
 
 abbrev pub mesh_of : List Float → List ℕ → Mesh
 mesh_of points corners = record { points = points; corners = corners }
+
+-- the mesh that the code's view shows
+abbrev pub seen : MeshView → Mesh
+seen v = mesh_of v.coords.now v.corners.now
 
 -- ---- counts: whole points and whole cells
 

@@ -2,16 +2,33 @@
 // corners of its cells. What gemlab's `mesh/grid_cells.rs` does with one cell at a time.
 #![tactic(auto)]
 
-ghost use Rattle.std.specs.Prelude.{ℕ, ◌+◌, ◌*◌, ◌≤◌, ◌<◌, ◌≡◌, true, [], ltb, length, get_or};
-ghost use Rattle.basics.specs.Lists.{all, zip_with};
+ghost use Rattle.std.specs.Prelude.{ℕ, ◌+◌, ◌*◌, ◌≤◌, ◌<◌, ◌≡◌, true, false, [], ◌∷◌, IfOk, length, get_or};
+ghost use Rattle.basics.specs.Answers.{fault_in};
+ghost use Rattle.basics.specs.Refusals.{refuse, fault};
 ghost use Rattle.floats.specs.Rounded.{zero_f};
-ghost use Rattle.floats.specs.Tests.{min_of, max_of};
 ghost use Rattle.geometry.specs.Position.{coords as axes, position_of, dimension};
 ghost use Rattle.geometry.specs.Cells.{zetas, inside};
-ghost use Rattle.mesh.specs.Mesh.{mesh_of, cell_count, point_count, mesh_too_long, broken_mesh, Whole, point_at, corners_of, corner_points, box_of, boxed, joined_box, longest_side};
+ghost use Rattle.mesh.specs.Mesh.{seen, cell_count, point_count, mesh_too_long, broken_mesh, point_at, corners_of, corner_points, box_of, boxed, joined_box, longest_side};
 ghost use Rattle.mesh.specs.Cell.{cell_zeta};
 
-use geometry::{Position, Zeta};
+use basics::Refusal;
+use geometry::{Dimension, Position, Zeta};
+
+// A mesh in two lent lists, and its dimension. Each list has a lifetime of its own.
+#[derive(Clone, Copy)]
+pub struct Mesh<'a, 'b> {
+    pub ndim: usize,
+    pub coords: &'a [f64],
+    pub corners: &'b [u32],
+}
+
+// A mesh of 2 or 3 dimensions whose lists hold whole points and whole cells, and whose corners name points.
+#[derive(Clone, Copy)]
+pub struct WholeMesh<'a, 'b> {
+    pub mesh: Mesh<'a, 'b>,
+    pub ghost axes: { dimension mesh.ndim ≡ true },
+    pub ghost whole: { broken_mesh mesh.ndim (seen mesh) ≡ false },
+}
 
 // The least and the greatest coordinate of a cell's corners on each axis.
 #[derive(Clone, Copy)]
@@ -20,133 +37,132 @@ pub struct BoundingBox {
     pub high: Position,
 }
 
-// How many whole points the coordinates hold.
-pub fn point_count(ndim: usize, coords: &[f64]) -> usize
-    requires { dimension ndim ≡ true }
-    ensures { result ≡ point_count ndim (mesh_of coords.now []) }
-{
-    coords.len() / ndim
-}
-
-// How many whole cells the corners hold.
-pub fn cell_count(ndim: usize, corners: &[u32]) -> usize
-    requires { dimension ndim ≡ true }
-    ensures { result ≡ cell_count ndim (mesh_of [] corners.now) }
-{
-    corners.len() / (ndim + 1)
-}
-
-// Whether the flat lists hold more than 65,536 whole points or cells.
-pub fn is_too_long(ndim: usize, coords: &[f64], corners: &[u32]) -> bool
-    requires { dimension ndim ≡ true }
-    ensures { result ≡ mesh_too_long ndim (mesh_of coords.now corners.now) }
-{
-    (point_count(ndim, coords) > 65536) | (cell_count(ndim, corners) > 65536)
-}
-
-// The number of a point, as an index.
-fn number(p: u32) -> usize
-    ensures { result ≡ p }
-{
-    p as usize
-}
-
-// Whether every entry is below n.
-fn all_below(s: &[u32], n: usize) -> bool
-    ensures { result ≡ all (λ (p : ℕ). ltb p n) s.now }
-{
-    let mut i = 0;
-    while i < s.len() {
-        if number(s[i]) >= n {
-            return false;
+impl<'a, 'b> Mesh<'a, 'b> {
+    // The view of two lists.
+    pub fn new(ndim: usize, coords: &'a [f64], corners: &'b [u32]) -> Mesh<'a, 'b>
+        ensures { (result.ndim ≡ ndim) × ((result.coords ≡ coords.entry) × (result.corners ≡ corners.entry)) }
+    {
+        Mesh {
+            ndim,
+            coords,
+            corners,
         }
-        i += 1;
     }
-    true
-}
 
-// Whether the flat lists hold no whole number of points or cells, or a corner names no point.
-pub fn is_broken(ndim: usize, coords: &[f64], corners: &[u32]) -> bool
-    requires { dimension ndim ≡ true }
-    ensures { result ≡ broken_mesh ndim (mesh_of coords.now corners.now) }
-{
-    if coords.len() % ndim != 0 {
-        return true;
+    // How many whole points the coordinates hold.
+    #[tactic(auto, unfolding(crate::specs::Mesh::point_count))]
+    pub fn point_count(self) -> usize
+        requires { dimension self.ndim ≡ true }
+        ensures { result ≡ point_count self.entry.ndim (seen self.entry) }
+    {
+        self.coords.len() / self.ndim
     }
-    if corners.len() % (ndim + 1) != 0 {
-        return true;
+
+    // How many whole cells the corners hold.
+    #[tactic(auto, unfolding(crate::specs::Mesh::cell_count))]
+    pub fn cell_count(self) -> usize
+        requires { dimension self.ndim ≡ true }
+        ensures { result ≡ cell_count self.entry.ndim (seen self.entry) }
+    {
+        self.corners.len() / (self.ndim + 1)
     }
-    !all_below(corners, point_count(ndim, coords))
+
+    // Whether the flat lists hold more than 65,536 whole points or cells.
+    #[tactic(auto, unfolding(crate::specs::Mesh::mesh_too_long, crate::specs::Mesh::point_count, crate::specs::Mesh::cell_count))]
+    pub fn is_too_long(self) -> bool
+        requires { dimension self.ndim ≡ true }
+        ensures { result ≡ mesh_too_long self.entry.ndim (seen self.entry) }
+    {
+        (self.point_count() > 65536) | (self.cell_count() > 65536)
+    }
+
+    // Whether the flat lists hold no whole number of points or cells, or a corner names no point.
+    #[tactic(auto, unfolding(crate::specs::Mesh::broken_mesh))]
+    pub fn is_broken(self) -> bool
+        requires { dimension self.ndim ≡ true }
+        ensures { result ≡ broken_mesh self.entry.ndim (seen self.entry) }
+    {
+        if self.coords.len() % self.ndim != 0 {
+            return true;
+        }
+        if self.corners.len() % (self.ndim + 1) != 0 {
+            return true;
+        }
+        let count = self.point_count();
+        !self.corners.iter().all(|p| (*p as usize) < count)
+    }
+
+    // The same mesh, known to be whole, or the refusal 19.
+    #[tactic(auto, unfolding(basics::specs::Refusals::fault))]
+    pub fn whole(self) -> Result<WholeMesh<'a, 'b>, Refusal>
+        requires { dimension self.ndim ≡ true }
+        ensures judged { fault_in result ≡ fault (refuse 19 (broken_mesh self.entry.ndim (seen self.entry)) ∷ []) }
+        ensures same { IfOk result (λ w. w.mesh ≡ self.entry) }
+    {
+        if self.is_broken() {
+            return Err(Refusal::BrokenMesh);
+        }
+        Ok(WholeMesh { mesh: self })
+    }
+
+    // The position of a point.
+    pub fn point(self, p: usize) -> Position
+        requires axes { dimension self.ndim ≡ true }
+        requires in_list { p * self.ndim + self.ndim ≤ length self.coords.now }
+        ensures { result ≡ position_of (point_at self.entry.ndim (seen self.entry) p) }
+    {
+        let at = p * self.ndim;
+        Position::new(&self.coords[at..at + self.ndim])
+    }
+
+    // The number of the point at corner k of a cell.
+    pub fn corner_point(self, cell: usize, k: usize) -> usize
+        requires axes { dimension self.ndim ≡ true }
+        requires cell { cell < cell_count self.ndim (seen self) }
+        requires corner { k ≤ self.ndim }
+        ensures { result ≡ get_or (corners_of self.entry.ndim (seen self.entry) cell) k 0 }
+    {
+        self.corners[cell * (self.ndim + 1) + k] as usize
+    }
 }
 
-// The position of a point.
-pub fn point(ndim: usize, coords: &[f64], p: usize) -> Position
-    requires fact_1 { dimension ndim ≡ true }
-    requires fact_2 { p * ndim + ndim ≤ length coords.now }
-    ensures { result ≡ position_of (point_at ndim (mesh_of coords.now []) p) }
-{
-    let at = p * ndim;
-    Position::new(&coords[at..at + ndim])
-}
-
-// The number of the point at corner k of a cell.
-pub fn corner_point(ndim: usize, corners: &[u32], cell: usize, k: usize) -> usize
-    requires fact_1 { dimension ndim ≡ true }
-    requires fact_2 { cell < cell_count ndim (mesh_of [] corners.now) }
-    requires fact_3 { k ≤ ndim }
-    ensures { result ≡ get_or (corners_of ndim (mesh_of [] corners.now) cell) k 0 }
-{
-    number(corners[cell * (ndim + 1) + k])
-}
-
-// The position of corner k of a cell.
-fn corner(ndim: usize, coords: &[f64], corners: &[u32], cell: usize, k: usize) -> Position
-    requires fact_1 { Whole ndim (mesh_of coords.now corners.now) }
-    requires fact_2 { cell < cell_count ndim (mesh_of coords.now corners.now) }
-    requires fact_3 { k ≤ ndim }
-    ensures { axes ndim result ≡ get_or (corner_points ndim (mesh_of coords.now corners.now) cell) k [] }
-{
-    let p = corner_point(ndim, corners, cell, k);
-    point(ndim, coords, p)
-}
-
-// On each axis the smaller of two coordinates.
-fn lower(p: Position, q: Position) -> Position
-    ensures { (n : ℕ) → axes n result ≡ zip_with min_of (axes n p) (axes n q) }
+// On each axis what f makes of two coordinates.
+fn on_axes<F: Fn(f64, f64) -> f64>(p: Position, q: Position, f: F) -> Position
+    requires { F.IsAlwaysCallable f }
+    ensures x { F.post f p.x q.x result.x }
+    ensures y { F.post f p.y q.y result.y }
+    ensures z { F.post f p.z q.z result.z }
 {
     Position {
-        x: floats::min(p.x, q.x),
-        y: floats::min(p.y, q.y),
-        z: floats::min(p.z, q.z),
-    }
-}
-
-// On each axis the larger of two coordinates.
-fn upper(p: Position, q: Position) -> Position
-    ensures { (n : ℕ) → axes n result ≡ zip_with max_of (axes n p) (axes n q) }
-{
-    Position {
-        x: floats::max(p.x, q.x),
-        y: floats::max(p.y, q.y),
-        z: floats::max(p.z, q.z),
+        x: f(p.x, q.x),
+        y: f(p.y, q.y),
+        z: f(p.z, q.z),
     }
 }
 
 impl BoundingBox {
+    // The box around one position.
+    fn around(x: Position) -> BoundingBox
+        ensures { result ≡ record { low = x; high = x } }
+    {
+        BoundingBox { low: x, high: x }
+    }
+
     // The box around two boxes.
+    #[tactic(auto, using(crate::proofs::Boxes::zipped), unfolding(crate::specs::Mesh::joined_box))]
     pub fn joined(self, other: BoundingBox) -> BoundingBox
         ensures { (n : ℕ) → boxed n result ≡ joined_box (boxed n self) (boxed n other) }
     {
         BoundingBox {
-            low: lower(self.low, other.low),
-            high: upper(self.high, other.high),
+            low: on_axes(self.low, other.low, floats::min),
+            high: on_axes(self.high, other.high, floats::max),
         }
     }
 
     // Its largest length.
-    pub fn largest_length(self, ndim: usize) -> f64
-        requires { dimension ndim ≡ true }
-        ensures { result ≡ longest_side (boxed ndim self) }
+    #[tactic(auto, unfolding(crate::specs::Mesh::longest_side))]
+    pub fn largest_length(self, ndim: Dimension) -> f64
+        ensures { result ≡ longest_side (boxed ndim.n self) }
     {
         let lengths = Position {
             x: self.high.x - self.low.x,
@@ -157,47 +173,58 @@ impl BoundingBox {
     }
 }
 
-// The bounding box of a cell.
-pub fn bounding_box(ndim: usize, coords: &[f64], corners: &[u32], cell: usize) -> BoundingBox
-    requires fact_1 { Whole ndim (mesh_of coords.now corners.now) }
-    requires fact_2 { cell < cell_count ndim (mesh_of coords.now corners.now) }
-    ensures { boxed ndim result ≡ box_of ndim (mesh_of coords.now corners.now) cell }
-{
-    let first = corner(ndim, coords, corners, cell, 0);
-    let mut low = first;
-    let mut high = first;
-    let mut k = 1;
-    while k <= ndim {
-        let x = corner(ndim, coords, corners, cell, k);
-        low = lower(low, x);
-        high = upper(high, x);
-        k += 1;
+impl<'a, 'b> WholeMesh<'a, 'b> {
+    // How many cells it has.
+    pub fn cell_count(self) -> usize
+        ensures { result ≡ cell_count self.entry.mesh.ndim (seen self.entry.mesh) }
+    {
+        self.mesh.cell_count()
     }
-    BoundingBox { low, high }
-}
 
-// The coordinates of a position in a cell: three in a triangle, four in a tetrahedron.
-pub fn cell_coords(ndim: usize, coords: &[f64], corners: &[u32], cell: usize, x: Position) -> Zeta
-    requires fact_1 { Whole ndim (mesh_of coords.now corners.now) }
-    requires fact_2 { cell < cell_count ndim (mesh_of coords.now corners.now) }
-    ensures { result ≡ cell_zeta ndim (corner_points ndim (mesh_of coords.now corners.now) cell) (axes ndim x) }
-{
-    let xa = corner(ndim, coords, corners, cell, 0);
-    let xb = corner(ndim, coords, corners, cell, 1);
-    let xc = corner(ndim, coords, corners, cell, 2);
-    if ndim == 2 {
-        return geometry::triangle_coords(xa, xb, xc, x);
+    // The position of corner k of a cell.
+    fn corner(self, cell: usize, k: usize) -> Position
+        requires cell { cell < cell_count self.mesh.ndim (seen self.mesh) }
+        requires corner { k ≤ self.mesh.ndim }
+        ensures { axes self.entry.mesh.ndim result ≡ get_or (corner_points self.entry.mesh.ndim (seen self.entry.mesh) cell) k [] }
+    {
+        self.mesh.point(self.mesh.corner_point(cell, k))
     }
-    let xd = corner(ndim, coords, corners, cell, 3);
-    geometry::tetrahedron_coords(xa, xb, xc, xd, x)
+
+    // The bounding box of a cell.
+    pub fn bounding_box(self, cell: usize) -> BoundingBox
+        requires { cell < cell_count self.mesh.ndim (seen self.mesh) }
+        ensures { boxed self.entry.mesh.ndim result ≡ box_of self.entry.mesh.ndim (seen self.entry.mesh) cell }
+    {
+        let mut all = BoundingBox::around(self.corner(cell, 0));
+        for k in 1..self.mesh.ndim + 1 {
+            let x = self.corner(cell, k);
+            all = all.joined(BoundingBox::around(x));
+        }
+        all
+    }
+
+    // The coordinates of a position in a cell: three in a triangle, four in a tetrahedron.
+    pub fn cell_coords(self, cell: usize, x: Position) -> Zeta
+        requires { cell < cell_count self.mesh.ndim (seen self.mesh) }
+        ensures { result ≡ cell_zeta self.entry.mesh.ndim (corner_points self.entry.mesh.ndim (seen self.entry.mesh) cell) (axes self.entry.mesh.ndim x) }
+    {
+        let xa = self.corner(cell, 0);
+        let xb = self.corner(cell, 1);
+        let xc = self.corner(cell, 2);
+        if self.mesh.ndim == 2 {
+            return geometry::triangle_coords(xa, xb, xc, x);
+        }
+        let xd = self.corner(cell, 3);
+        geometry::tetrahedron_coords(xa, xb, xc, xd, x)
+    }
 }
 
 // Whether a position with these coordinates is in the cell.
-pub fn in_cell(ndim: usize, zeta: Zeta) -> bool
-    requires { dimension ndim ≡ true }
-    ensures { result ≡ inside zero_f (zetas (ndim + 1) zeta) }
+#[tactic(auto, using(geometry::proofs::Axes::three))]
+pub fn in_cell(ndim: Dimension, zeta: Zeta) -> bool
+    ensures { result ≡ inside zero_f (zetas (ndim.n + 1) zeta) }
 {
-    if ndim == 2 {
+    if ndim.n == 2 {
         return geometry::in_triangle(zeta);
     }
     geometry::in_tetrahedron(zeta)

@@ -2,15 +2,17 @@
 -- Assumes nothing.
 use Prim.Native.Nat.{ℕ, ◌≤◌, ◌<◌}
 use mathlib.Core.Path.{◌≡◌, refl, sym, ap, ◌∙◌, subst}
-use mathlib.Core.Bool.{Bool, cond, ◌&&◌}
+use mathlib.Core.Bool.{Bool, true, false, cond, ◌&&◌}
 use mathlib.Core.Option.{Option, none, some}
+use Rattle.std.specs.Prelude as prelude
+use Rattle.std.specs.Bool.{then_some}
 use lib.Dec.{leb}
 use lib.IntN.{ℤ, nat_abs}
 use lib.Ieee.{Float, binary64, lt, add, mul, of_int, of_bits}
 use borrow.Author.Tests.{le-leb, lt-leb}
 use Rattle.floats.specs.Rounded.{◌⊕◌, ◌⊗◌, ◌⊘◌, of_nat, truncate, zero_f, pow2⁻}
 use Rattle.floats.specs.Tests.{abs_of, same_bits}
-use Rattle.millimetres.specs.Millimetres.{limit, signed, value_of, nearest_to, is_decimal, decimal_of}
+use Rattle.millimetres.specs.Millimetres.{limit, signed, value_of, nearest_to, is_decimal, decimal_of, whole_of}
 use mir.Syntax.{w64}
 use mir.Val.{to_z, of_z}
 use Rattle.millimetres.proofs.Signed.{size-signed, read_back}
@@ -44,6 +46,10 @@ pub zero_is : of_bits binary64 0 ≡ zero_f
 unfolding of_bits
 zero_is = refl
 
+chosen : (b : Bool) (m : ℤ) → whole_of (then_some b m) ≡ answer b m
+chosen true m = refl
+chosen false m = refl
+
 -- ---- `millimetres_of`, with what its callees answer
 module _ (x a : Float) (n : ℕ) (p : a ≡ abs_of x) (q : n ≡ truncate (add binary64 (mul binary64 a (of_bits binary64 0x408f_4000_0000_0000)) (of_bits binary64 0x3fe0_0000_0000_0000))) where
   nearest_of : signed (lt x (of_bits binary64 0)) n ≡ nearest_to x
@@ -62,10 +68,7 @@ module _ (x a : Float) (n : ℕ) (p : a ≡ abs_of x) (q : n ≡ truncate (add b
     held : to_z w64 (of_z w64 m) ≡ nearest_to x
     held = ap (λ (z : ℤ). to_z w64 (of_z w64 z)) (r ∙ nearest_of) ∙ read_back (nearest_to x) nearest-within
 
-    pub held-within : nat_abs (to_z w64 (of_z w64 m)) ≤ limit
-    held-within = rw held nearest-within
-
-    pub answered : (v : Float) (b t : Bool) → v ≡ value_of (to_z w64 (of_z w64 m)) → b ≡ same_bits v x → b ≡ t → answer t (to_z w64 (of_z w64 m)) ≡ decimal_of x
-    answered v b t e f g =
-        let same : same_bits (value_of (nearest_to x)) x ≡ t = ap (λ (z : ℤ). same_bits (value_of z) x) (sym held) ∙ ap (λ (w : Float). same_bits w x) (sym e) ∙ sym f ∙ g in
-        ap (answer t) held ∙ sym (decimal-is x ∙ rw (le-leb (nat_abs (nearest_to x)) limit nearest-within, same))
+    pub answered : (v : Float) (b : Bool) (r : prelude.Option ℤ) → v ≡ value_of (to_z w64 (of_z w64 m)) → b ≡ same_bits v x → r ≡ then_some b (to_z w64 (of_z w64 m)) → whole_of r ≡ decimal_of x
+    answered v b r e f g =
+        let same : same_bits (value_of (nearest_to x)) x ≡ b = ap (λ (z : ℤ). same_bits (value_of z) x) (sym held) ∙ ap (λ (w : Float). same_bits w x) (sym e) ∙ sym f in
+        rw (g, chosen b (to_z w64 (of_z w64 m)), held) (sym (decimal-is x ∙ rw (le-leb (nat_abs (nearest_to x)) limit nearest-within, same)))

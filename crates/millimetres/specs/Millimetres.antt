@@ -1,13 +1,12 @@
 -- Whole millimetres, and the coordinates that they are.
 -- Assumes nothing.
 use Rattle.std.specs.Prelude.{ℕ, Bool, cond, ◌&&◌, leb, ℤ, pos, neg_ℤ, nat_abs, Float}
+use Rattle.std.specs.Prelude as prelude
 use Rattle.std.proofs.Math.Option.{Option, none, some}
 use Rattle.std.specs.Float.{binary64}
 use Rattle.std.specs.Float.Ieee.{of_int, lt}
 use Rattle.floats.specs.Rounded.{◌⊕◌, ◌⊗◌, ◌⊘◌, of_nat, truncate, zero_f, pow2⁻}
 use Rattle.floats.specs.Tests.{abs_of, same_bits}
-use Rattle.millimetres.specs.declared.Whole.{Whole}
-use Rattle.millimetres.specs.declared.Whole.TheVariants as whole
 
 -- 1,048,576 in millimetres: the magnitude that a coordinate has at most
 abbrev pub limit : ℕ
@@ -38,6 +37,6 @@ unfolding is_decimal nearest_to
 decimal_of x = cond (is_decimal x) (some (nearest_to x)) none
 
 -- what `millimetres_of` answers
-abbrev pub whole_of : Whole → Option ℤ
-whole_of (whole.Millimetres m) = some m
-whole_of whole.NoDecimal = none
+abbrev pub whole_of : prelude.Option ℤ → Option ℤ
+whole_of (prelude.Some m) = some m
+whole_of prelude.None = none

@@ -8,13 +8,6 @@ ghost use Rattle.millimetres.specs.Millimetres.{limit, signed, value_of, decimal
 // 1,048,576 in millimetres.
 pub const LIMIT: u64 = 1_048_576_000;
 
-// What `millimetres_of` answers: the millimetres, or that the float is no decimal's value.
-#[derive(Clone, Copy)]
-pub enum Whole {
-    Millimetres(i64),
-    NoDecimal,
-}
-
 // A number with its sign.
 pub fn signed_of(minus: bool, n: u64) -> i64
     requires { n ≤ limit }
@@ -32,16 +25,13 @@ pub fn value_of(millimetres: i64) -> f64
 }
 
 // The millimetres that a coordinate is, if it is any within the limit.
-pub fn millimetres_of(x: f64) -> Whole
+pub fn millimetres_of(x: f64) -> Option<i64>
     ensures { whole_of result ≡ decimal_of x }
 {
     let count = floats::truncated(floats::abs(x) * 1000.0 + 0.5);
     if count > LIMIT {
-        return Whole::NoDecimal;
+        return None;
     }
     let millimetres = signed_of(x < 0.0, count);
-    if floats::same_bits(value_of(millimetres), x) {
-        return Whole::Millimetres(millimetres);
-    }
-    Whole::NoDecimal
+    floats::same_bits(value_of(millimetres), x).then_some(millimetres)
 }

@@ -1,26 +1,26 @@
 -- What `display` and `put_refusal` leave in the buffer is the text, at its front.
 -- Assumes nothing.
-use Prim.Native.Nat.{ℕ, ◌^◌, ◌≤◌, ◌<◌}
+use Prim.Native.Nat.{ℕ, ◌≤◌}
 use native.Mathlib.Omega.{arith}
 use mathlib.Core.Path.{◌≡◌, refl, sym, ◌∙◌}
 use mathlib.Core.Option.{Option, none, some, some-ne-none}
 use mathlib.Core.List.{List, [], ◌∷◌, ◌++◌}
 use lib.Dec.{ltb}
-use lib.ListN.{length, get_or}
+use lib.ListN.{length}
 use borrow.Author.Tests.{le-ltb}
+use Rattle.std.specs.Prelude.{Ok, Err}
 use Rattle.basics.specs.Refusals.{Test, refuse, fault}
+use Rattle.basics.specs.Answers.{refusal_number}
+use Rattle.basics.specs.declared.Refusal.{Refusal}
 use Rattle.basics.proofs.Refusals.{fault_left, fault-right, fault_stop}
 use Rattle.basics.proofs.Filled.{fill-success, fill-refused}
 use Rattle.grid_search.specs.declared.GridSearch.{GridSearch}
 use Rattle.table.specs.Library.{Library, table}
 use Rattle.rows.specs.Damage.{library_tests}
-use Rattle.rows.proofs.Check.{whole, in_order, divided}
+use Rattle.rows.proofs.Check.{whole, in_order}
 use Rattle.text.specs.Text.{refusal, Front}
 use Rattle.text.proofs.Laws.{over-front}
-use Rattle.display.specs.declared.Shown.TheVariants.{Length, Refused}
-use Rattle.display.specs.Display.{display_text, display_tests, showing, Shows}
-use Rattle.display.proofs.Answers.{text_of_slots}
-use Rattle.display.proofs.Bounds.{whole-most}
+use Rattle.display.specs.Display.{display_text, display_tests, showing, Shows, IsShort}
 use Rattle.outcome.specs.Outcome.{text_or, library_text}
 
 module _ (s : GridSearch) (l : Library) (buffer exit : List ℕ) where
@@ -31,7 +31,7 @@ module _ (s : GridSearch) (l : Library) (buffer exit : List ℕ) where
   room = refuse 14 (ltb (length buffer) (length (display_text s (table l)))) ∷ []
 
   -- a length: the text of a library that is not damaged
-  pub shown-length : (n : ℕ) → Shows (showing s l buffer) (Length n) exit → Front (library_text s l) exit n
+  pub shown-length : (n : ℕ) → Shows (showing s l buffer) (Ok n) exit → Front (library_text s l) exit n
   unfolding showing display_tests library_text text_or
   shown-length n h =
       let p = fill-success text buffer n (fault (display_tests s l (length buffer))) (sym h.answers) in
@@ -46,15 +46,10 @@ module _ (s : GridSearch) (l : Library) (buffer exit : List ℕ) where
   damaged (some m) n e fits f = sym (fault_stop (library_tests s l) room m e) ∙ f
 
   -- a refusal, where the text would fit: that of a library that is damaged
-  pub shown-refused : (n : ℕ) → (fault (library_tests s l) ≡ none → length text ≤ length buffer) → Shows (showing s l buffer) (Refused n) exit → library_text s l ≡ refusal (n ∷ [])
+  pub shown-refused : (e : Refusal) → (fault (library_tests s l) ≡ none → length text ≤ length buffer) → Shows (showing s l buffer) (Err e) exit → library_text s l ≡ refusal (refusal_number e ∷ [])
   unfolding showing display_tests library_text text_or
-  shown-refused n fits h = rw (damaged (fault (library_tests s l)) n refl fits (fill-refused text buffer n (fault (display_tests s l (length buffer))) (sym h.answers)))
+  shown-refused e fits h = rw (damaged (fault (library_tests s l)) (refusal_number e) refl fits (fill-refused text buffer (refusal_number e) (fault (display_tests s l (length buffer))) (sym h.answers)))
 
--- a row takes at most 69 bytes, and the summary 148
-pub text_fits : (s : GridSearch) (l : Library) → ((i : ℕ) → get_or l.keys i 0 < 2 ^ 64) → ((i : ℕ) → get_or l.ids i 0 < 2 ^ 64) → length l.keys ≤ 1024
-    → fault (library_tests s l) ≡ none → length (display_text s (table l)) ≤ 70804
-text_fits s l k i h e =
-    let w = whole s l e in
-    let d = divided s w.sheet in
-    let room = (in_order w).room in
-    rw (text_of_slots s l) (omega (arith, whole-most l.keys l.ids l.used s.ndim s.ndiv k i (omega (arith, room.0, h)) d.axes d.divisions, room.0, h))
+-- the text of so few rows fits
+pub text_fits : (s : GridSearch) (l : Library) → IsShort s l → length l.keys ≤ 1024 → fault (library_tests s l) ≡ none → length (display_text s (table l)) ≤ 70804
+text_fits s l short h e = let room = (in_order (whole s l e)).room in omega (arith, short e, room.0, h)

@@ -24,11 +24,11 @@ unfoldable pub library_text : GridSearch → Library → List ℕ
 unfolding text_or fault library_tests display_text table
 library_text s l = text_or (fault (library_tests s l)) (display_text s (table l))
 
--- with the number of rows in use that the last insertion answered, or its refusal; `lists` is the library but for that number
-unfoldable pub outcome_text : GridSearch → (ℕ → Library) → Answer ℕ → List ℕ
+-- of the library as inserting the marks left it, and what that answered
+unfoldable pub outcome_text : GridSearch → Library → Answer ℕ → List ℕ
 unfolding refusal library_text
-outcome_text s lists (refused n) = refusal (n ∷ [])
-outcome_text s lists (success used) = library_text s (lists used)
+outcome_text s l (refused n) = refusal (n ∷ [])
+outcome_text s l (success used) = library_text s l
 
 -- ---- what is printed of the two files: marks.bin has records of 32 bytes
 

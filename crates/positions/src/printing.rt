@@ -1,63 +1,92 @@
-// Values on standard output.
-use std::io::Print;
+// Answers as the lines show them.
+use std::{fmt, io};
 
-// Sixteen hexadecimal digits.
-fn print_hexadecimal(stdout: &impl Print, n: u64) {
-    let digits = b"0123456789abcdef";
-    let mut unit = 0x1000_0000_0000_0000;
-    while unit > 0 {
-        let digit = [digits[(n / unit % 16) as usize]];
-        let _ = stdout.write_all(&digit);
-        unit = unit / 16;
+// A float to its last bit: the value cut to six decimals, for a reader, and its bits in hexadecimal. A NaN has none of its own.
+#[derive(Clone, Copy)]
+pub struct Exact(pub f64);
+
+impl fmt::Display for Exact {
+    fn fmt<W: fmt::Write>(&self, f: &mut fmt::Formatter<W>) -> fmt::Result {
+        let x = self.0;
+        if x.is_nan() {
+            return write!(f, "NaN");
+        }
+        let bits = x.to_bits();
+        let sign = if x.is_sign_negative() { "-" } else { "" };
+        if x.is_finite() {
+            let millionths = floats::truncated(x.abs() * 1000000.0);
+            let whole = millionths / 1000000;
+            let rest = millionths % 1000000;
+            write!(f, "{sign}{whole}.{rest:06} ({bits:016x})")
+        } else {
+            write!(f, "{sign}infinity ({bits:016x})")
+        }
     }
 }
 
-// The magnitude of a finite float, cut to six decimals.
-fn print_decimals(stdout: &impl Print, x: f64) {
-    let n = floats::truncated(floats::abs(x) * 1000000.0);
-    let _ = stdout.print(n / 1000000);
-    let _ = stdout.write_all(b".");
-    let _ = stdout.print(n / 100000 % 10);
-    let _ = stdout.print(n / 10000 % 10);
-    let _ = stdout.print(n / 1000 % 10);
-    let _ = stdout.print(n / 100 % 10);
-    let _ = stdout.print(n / 10 % 10);
-    let _ = stdout.print(n % 10);
-}
+// What a call refuses by.
+#[derive(Clone, Copy)]
+pub struct Refused(u64);
 
-// The bits of a float in hexadecimal, in brackets. A NaN has none of its own.
-fn print_bits(stdout: &impl Print, x: f64) {
-    if x == x {
-        let bits = f64::to_bits(x);
-        let _ = stdout.write_all(b" (");
-        print_hexadecimal(stdout, bits);
-        let _ = stdout.write_all(b")");
+impl fmt::Display for Refused {
+    fn fmt<W: fmt::Write>(&self, f: &mut fmt::Formatter<W>) -> fmt::Result {
+        let number = self.0;
+        write!(f, "refused {number}")
     }
 }
 
-// A float to its last bit: the value cut to six decimals, for a reader, and its bits.
-pub fn print_float(stdout: &impl Print, x: f64) {
-    if x < 0.0 || floats::same_bits(x, -0.0) {
-        let _ = stdout.write_all(b"-");
-    }
-    if floats::is_finite(x) {
-        print_decimals(stdout, x);
-    } else if x == x {
-        let _ = stdout.write_all(b"infinity");
+// What a call returned: 0 is success.
+pub fn outcome(number: u64) -> Result<(), Refused> {
+    if number == 0 {
+        Ok(())
     } else {
-        let _ = stdout.write_all(b"NaN");
+        Err(Refused(number))
     }
-    print_bits(stdout, x);
 }
 
-// The first `count` numbers of a list, a space in front of each.
-pub fn print_numbers(stdout: &impl Print, numbers: &[u64], count: u64) {
-    let mut i = 0;
-    let mut left = count;
-    while i < numbers.len() && left > 0 {
-        let _ = stdout.write_all(b" ");
-        let _ = stdout.print(numbers[i]);
-        i += 1;
-        left -= 1;
+// Numbers after what they are, a space in front of each.
+#[derive(Clone, Copy)]
+pub struct Numbers<'a> {
+    what: &'a str,
+    list: &'a [u64],
+}
+
+impl<'a> Numbers<'a> {
+    // The first `count` of a list.
+    pub fn first(what: &'a str, list: &'a [u64], count: u64) -> Self {
+        let list = list.get(..count as usize).unwrap_or(list);
+        Numbers { what, list }
     }
+}
+
+impl fmt::Display for Numbers<'_> {
+    fn fmt<W: fmt::Write>(&self, f: &mut fmt::Formatter<W>) -> fmt::Result {
+        let what = self.what;
+        write!(f, "{what}")?;
+        for number in self.list {
+            write!(f, " {number}")?;
+        }
+        Ok(())
+    }
+}
+
+// A line: what was tried, and what was answered.
+pub fn tell<T: fmt::Display + Drop>(
+    rt: &impl Print,
+    tried: &str,
+    answer: Result<T, Refused>,
+) -> io::Result<()> {
+    match answer {
+        Ok(value) => println!(rt; "{tried}: {value}"),
+        Err(refused) => println!(rt; "{tried}: {refused}"),
+    }
+}
+
+// The same of a call that makes something: only whether it does is told.
+pub fn tell_made<T: Drop>(
+    rt: &impl Print,
+    tried: &str,
+    made: Result<T, Refused>,
+) -> io::Result<()> {
+    tell(rt, tried, made.map(|_| "accepted"))
 }

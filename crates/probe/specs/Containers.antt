@@ -1,12 +1,11 @@
 -- The key and the centre of a container, of any arguments.
 -- Assumes nothing.
-use Rattle.std.specs.Prelude.{ℕ, ◌-◌, ◌^◌, Bool, cond, ◌&&◌, ltb, Float}
+use Rattle.std.specs.Prelude.{ℕ, ◌-◌, ◌^◌, Bool, cond, ◌&&◌, ltb, Option, Some, None, Float}
 use Rattle.basics.specs.Lists.{all}
 use Rattle.geometry.specs.declared.Position.{Position}
 use Rattle.geometry.specs.Position.{coords, position_of, dimension}
 use Rattle.grid.specs.declared.Divisions.{Divisions}
-use Rattle.grid.specs.declared.Located.{Located}
-use Rattle.grid.specs.declared.Located.TheVariants.{Key, Exceeds}
+use Rattle.grid.specs.declared.ContainerKey.{ContainerKey}
 use Rattle.grid.specs.Divisions.{counts, division}
 use Rattle.grid.specs.Containers.{located, containers, pivots, centre}
 
@@ -16,9 +15,9 @@ unfolding all
 is_grid n d = dimension n && all division (counts n d)
 
 -- the key, or the largest number of 64 bits less 1 where a ratio exceeds its divisions
-abbrev pub key_number : Located → ℕ
-key_number (Key k) = k.0
-key_number Exceeds = 2 ^ 64 - 2
+abbrev pub key_number : Option ContainerKey → ℕ
+key_number (Some k) = k.0
+key_number None = 2 ^ 64 - 2
 
 -- and the largest one where there is no such grid
 unfoldable pub key_probed : ℕ → Divisions → Float → Position → Position → ℕ

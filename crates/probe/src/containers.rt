@@ -1,32 +1,38 @@
 // Module 4: the key of a position, and the centre of a container.
-ghost use Rattle.std.specs.Prelude.{◌≡◌, ◌&&◌, ltb};
+ghost use Rattle.std.specs.Prelude.{◌≡◌, true, false, MatchOption};
+ghost use Rattle.basics.specs.Lists.{all};
 ghost use Rattle.geometry.specs.Position.{position_of};
-ghost use Rattle.grid.specs.Divisions.{counts};
-ghost use Rattle.grid.specs.Containers.{containers};
+ghost use Rattle.grid.specs.Divisions.{counts, division};
 ghost use Rattle.probe.specs.Containers.{is_grid, key_number, key_probed, centre_probed};
 
-use geometry::Position;
-use grid::{ContainerKey, Divisions, Located};
+use geometry::{Dimension, Position};
+use grid::{ContainerKey, Divisions};
 
-fn is_grid(ndim: usize, ndiv: Divisions) -> bool
-    ensures { result ≡ is_grid ndim ndiv }
-{
-    if geometry::is_dimension(ndim) {
-        return grid::divisions_ok(ndim, ndiv);
-    }
-    false
+#[derive(Clone, Copy)]
+struct Grid {
+    ndim: Dimension,
+    ndiv: Divisions,
+    ghost divided: { all division (counts ndim.n ndiv) ≡ true },
 }
 
-fn key_number(located: Located) -> u64
+#[tactic(auto, unfolding(crate::specs::Containers::is_grid))]
+fn grid_of(ndim: usize, ndiv: Divisions) -> Option<Grid>
+    ensures { MatchOption result (is_grid ndim ndiv ≡ false) (λ g. (g.ndim.n ≡ ndim) × (g.ndiv ≡ ndiv)) }
+{
+    match Dimension::try_from(ndim) {
+        Ok(ndim) if grid::divisions_ok(ndim, ndiv) => Some(Grid { ndim, ndiv }),
+        _ => None,
+    }
+}
+
+fn key_number(located: Option<ContainerKey>) -> u64
     ensures { result ≡ key_number located }
 {
-    match located {
-        Located::Key(key) => key.0,
-        Located::Exceeds => 0xffff_ffff_ffff_fffe,
-    }
+    located.map_or(0xffff_ffff_ffff_fffe, |key| key.0)
 }
 
 #[unsafe(no_mangle)]
+#[tactic(auto, using(crate::proofs::Grids::is_one), unfolding(crate::specs::Containers::key_probed))]
 pub extern "C" fn probe_container_key(
     ndim: usize,
     side_length: f64,
@@ -43,28 +49,20 @@ pub extern "C" fn probe_container_key(
         y: ny,
         z: nz,
     };
-    if !is_grid(ndim, ndiv) {
-        return 0xffff_ffff_ffff_ffff;
+    match grid_of(ndim, ndiv) {
+        Some(grid) => key_number(grid::calc_container_key(
+            grid.ndim,
+            side_length,
+            grid.ndiv,
+            Position::new(xmin),
+            Position::new(x),
+        )),
+        None => 0xffff_ffff_ffff_ffff,
     }
-    key_number(grid::calc_container_key(
-        ndim,
-        side_length,
-        ndiv,
-        Position::new(xmin),
-        Position::new(x),
-    ))
-}
-
-fn has_container(ndim: usize, ndiv: Divisions, key: u64) -> bool
-    ensures { result ≡ (is_grid ndim ndiv && ltb key (containers (counts ndim ndiv))) }
-{
-    if !is_grid(ndim, ndiv) {
-        return false;
-    }
-    key < grid::container_count(ndim, ndiv)
 }
 
 #[unsafe(no_mangle)]
+#[tactic(auto, using(crate::proofs::Grids::is_one), unfolding(crate::specs::Containers::centre_probed))]
 pub extern "C" fn probe_container_center(
     ndim: usize,
     side_length: f64,
@@ -85,16 +83,18 @@ pub extern "C" fn probe_container_center(
         y: ny,
         z: nz,
     };
-    if has_container(ndim, ndiv, key) {
-        let center = grid::container_center(
-            ndim,
-            side_length,
-            ndiv,
-            Position::new(xmin),
-            ContainerKey(key),
-        );
-        *cx = center.x;
-        *cy = center.y;
-        *cz = center.z;
+    if let Some(grid) = grid_of(ndim, ndiv) {
+        if key < grid::container_count(grid.ndim, grid.ndiv) {
+            let center = grid::container_center(
+                grid.ndim,
+                side_length,
+                grid.ndiv,
+                Position::new(xmin),
+                ContainerKey(key),
+            );
+            *cx = center.x;
+            *cy = center.y;
+            *cz = center.z;
+        }
     }
 }

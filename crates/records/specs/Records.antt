@@ -1,12 +1,12 @@
 -- The 32-byte records of the files: an id and three floats, each of eight bytes, the lowest first.
 -- Assumes nothing.
-use Rattle.std.specs.Prelude.{ℕ, ◌+◌, ◌*◌, not, List, [], ◌∷◌, eqb, length, take, drop, Float}
+use Rattle.std.specs.Prelude.{ℕ, ◌+◌, ◌*◌, not, List, [], ◌∷◌, eqb, length, take, drop, Float, Result}
 use Rattle.std.specs.Float.{binary64}
 use Rattle.std.specs.Float.Ieee.{of_bits}
-use Rattle.basics.specs.Refusals.{Test, refuse, fault, Answer, refused, success, answer}
+use Rattle.basics.specs.Refusals.{Test, refuse, fault, Answer, answer}
+use Rattle.basics.specs.Answers.{answered}
+use Rattle.basics.specs.declared.Refusal.{Refusal}
 use Rattle.records.specs.declared.Record.{Record}
-use Rattle.records.specs.declared.ReadRecord.{ReadRecord}
-use Rattle.records.specs.declared.ReadRecord.TheVariants as read
 
 -- the number that bytes stand for, the lowest first
 unfoldable pub little_endian : List ℕ → ℕ
@@ -41,6 +41,5 @@ unfoldable pub reading : List ℕ → Answer Record
 unfolding length_tests fault answer record_at
 reading bytes = answer (fault (length_tests bytes)) (record_at bytes 0)
 
-abbrev pub read_answer : ReadRecord → Answer Record
-read_answer (read.Whole r) = success r
-read_answer (read.Refused n) = refused n
+abbrev pub read_answer : Result Record Refusal → Answer Record
+read_answer = answered (λ r. r)

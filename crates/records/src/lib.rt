@@ -1,8 +1,10 @@
 // The 32-byte records of the files: an id and three floats, little-endian.
 #![tactic(auto)]
 
-ghost use Rattle.std.specs.Prelude.{◌+◌, ◌≤◌, ◌<◌, ◌≡◌, length};
-ghost use Rattle.records.specs.Records.{number_at, float_at, record_at, read_answer, reading};
+ghost use Rattle.std.specs.Prelude.{◌+◌, ◌≤◌, ◌≡◌, length, take, drop};
+ghost use Rattle.records.specs.Records.{number_at, float_at, record_at};
+
+use basics::Refusal;
 
 // A record as it stands in a file: its number, and three floats of any value.
 #[derive(Clone, Copy)]
@@ -13,47 +15,33 @@ pub struct Record {
     pub z: f64,
 }
 
-// What `read_record` answers.
-#[derive(Clone, Copy)]
-pub enum ReadRecord {
-    Whole(Record),
-    Refused(u64),
-}
-
-fn wide(byte: u8) -> u64
-    ensures { (result ≡ byte) × (result < 256) }
+// The eight bytes from an offset on.
+fn eight_at(bytes: &[u8], at: usize) -> [u8; 8]
+    requires { at + 8 ≤ length bytes.now }
+    ensures { result ≡ take 8 (drop at bytes.now) }
 {
-    byte as u64
+    <[u8; 8]>::try_from(&bytes[at..at + 8]).unwrap()
 }
 
+#[tactic(auto, using(crate::proofs::Laws::eight_bytes), unfolding(crate::specs::Records::number_at))]
 pub fn number_at(bytes: &[u8], at: usize) -> u64
     requires { at + 8 ≤ length bytes.now }
     ensures { result ≡ number_at bytes.now at }
 {
-    wide(bytes[at])
-        + wide(bytes[at + 1]) * 0x100
-        + wide(bytes[at + 2]) * 0x1_0000
-        + wide(bytes[at + 3]) * 0x100_0000
-        + wide(bytes[at + 4]) * 0x1_0000_0000
-        + wide(bytes[at + 5]) * 0x100_0000_0000
-        + wide(bytes[at + 6]) * 0x1_0000_0000_0000
-        + wide(bytes[at + 7]) * 0x100_0000_0000_0000
+    u64::from_le_bytes(eight_at(bytes, at))
 }
 
-// The patterns above infinity's, without the sign, are NaNs'.
+// Every pattern of a NaN is a NaN.
+#[tactic(auto, unfolding(crate::specs::Records::float_at))]
 pub fn float_at(bytes: &[u8], at: usize) -> f64
     requires { at + 8 ≤ length bytes.now }
     ensures { result ≡ float_at bytes.now at }
 {
-    let bits = number_at(bytes, at);
-    if bits % 0x8000_0000_0000_0000 > 0x7ff0_0000_0000_0000 {
-        0.0 / 0.0
-    } else {
-        f64::from_bits(bits)
-    }
+    std::num::f64_from_bits_with_nan(number_at(bytes, at))
 }
 
 // The record that starts at an offset.
+#[tactic(auto, unfolding(crate::specs::Records::record_at))]
 pub fn record_at(bytes: &[u8], at: usize) -> Record
     requires { at + 32 ≤ length bytes.now }
     ensures { result ≡ record_at bytes.now at }
@@ -66,12 +54,19 @@ pub fn record_at(bytes: &[u8], at: usize) -> Record
     }
 }
 
-// The record that the bytes are: 13 where they are not 32.
-pub fn read_record(bytes: &[u8]) -> ReadRecord
-    ensures { read_answer result ≡ reading bytes.now }
-{
-    if bytes.len() != 32 {
-        return ReadRecord::Refused(13);
+// The record that the bytes are: damaged where they are not 32.
+impl TryFrom<&[u8]> for Record {
+    ghost use Rattle.records.specs.Records.{read_answer, reading};
+
+    type Error = Refusal;
+
+    ghost try_from_gives = { λ bytes result. read_answer result ≡ reading bytes.now };
+
+    #[tactic(auto, unfolding(crate::specs::Records::reading, crate::specs::Records::length_tests, basics::specs::Refusals::fault, basics::specs::Refusals::answer))]
+    fn try_from(bytes: &[u8]) -> Result<Record, Refusal> {
+        if bytes.len() != 32 {
+            return Err(Refusal::Damaged);
+        }
+        Ok(record_at(bytes, 0))
     }
-    ReadRecord::Whole(record_at(bytes, 0))
 }

@@ -1,2 +1,3 @@
--- What the contracts of a program that reads lists cite.
-pub mod Counts
+-- What the contracts of a program that reads stored answers cite.
+pub mod Figures
+pub mod Kinds

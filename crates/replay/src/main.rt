@@ -2,36 +2,79 @@
 // back with what gemlab gave, and tells how many calls there were and how many differ.
 #![tactic(auto)]
 
+mod answers;
 mod cells;
-mod checks;
-mod compared;
+mod distances;
+mod kinds;
 mod library;
 
-use std::io::Print;
+use answers::Answers;
+use cells::Cells;
+use kinds::{Kind, Tallies};
+use library::Library;
+use std::fmt::InlineText;
+use std::fs::File;
+use std::io;
+use std::rt::Files;
 
-// The entries of a kind, and how many of them differ.
-fn tell(stdout: &impl Print, what: &[u8], counts: &[u64; 64], kind: usize) {
-    if kind < 32 {
-        let _ = stdout.write_all(what);
-        let _ = stdout.print(counts[kind]);
-        let _ = stdout.write_all(b", ");
-        let _ = stdout.print(counts[kind + 32]);
-        let _ = stdout.write_all(b" differ\n");
+// Says on standard error why a file could not be opened, in the system's words: its number for them is left out.
+fn fail(rt: &impl Eprint, path: &str, error: io::Error) {
+    let text = InlineText::<80>::of(error);
+    let text = text.as_str();
+    let words = match text.split_once(" (os error ") {
+        Some((words, _)) => words,
+        None => text,
+    };
+    let _ = eprintln!(rt; "{path}: {words}");
+}
+
+// Counts the entries of a file, up to a number that is no kind's or a kind of which `entry` makes no call.
+fn go_through<E: FnMut(Kind, &mut Answers) -> Option<bool>>(
+    rt: &(impl Files<File = File> + Eprint),
+    path: &str,
+    tallies: &mut Tallies,
+    mut entry: E,
+)
+    requires { E.IsAlwaysCallable entry }
+{
+    let mut answers = match Answers::open(rt, path) {
+        Ok(answers) => answers,
+        Err(error) => return fail(rt, path, error),
+    };
+    // no file has as many
+    for _ in 0..u64::MAX {
+        let Ok(kind) = Kind::try_from(answers.read::<u64>()) else {
+            return;
+        };
+        let Some(agrees) = entry(kind, &mut answers) else {
+            return;
+        };
+        tallies.count(kind, agrees);
     }
 }
 
 fn main(rt: HostRuntime) {
-    let mut counts = [0u64; 64];
-    library::replay(&rt, &rt.stderr(), b"libraries.bin", &mut counts);
-    cells::replay(&rt, &rt.stderr(), b"meshes.bin", &mut counts);
-    tell(&rt, b"sheets: ", &counts, 1);
-    tell(&rt, b"insertions: ", &counts, 2);
-    tell(&rt, b"strikings: ", &counts, 10);
-    tell(&rt, b"checks: ", &counts, 11);
-    tell(&rt, b"searches: ", &counts, 3);
-    tell(&rt, b"listings: ", &counts, 4);
-    tell(&rt, b"tables: ", &counts, 5);
-    tell(&rt, b"distances: ", &counts, 6);
-    tell(&rt, b"cell builds: ", &counts, 8);
-    tell(&rt, b"cell searches: ", &counts, 9);
+    let mut tallies = Tallies::new();
+    let mut library = Library::new();
+    go_through(&rt, "libraries.bin", &mut tallies, |kind, answers| {
+        library.entry(kind, answers)
+    });
+    let mut cells = Cells::new();
+    go_through(&rt, "meshes.bin", &mut tallies, |kind, answers| {
+        cells.entry(kind, answers)
+    });
+    for kind in [
+        Kind::Sheet,
+        Kind::Insertion,
+        Kind::Striking,
+        Kind::Check,
+        Kind::Search,
+        Kind::Listing,
+        Kind::Table,
+        Kind::Distance,
+        Kind::CellBuild,
+        Kind::CellSearch,
+    ] {
+        tallies.tell(&rt, kind);
+    }
 }

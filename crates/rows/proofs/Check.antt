@@ -1,7 +1,6 @@
 -- The check of a library: what passes it, and a law for each way out of the code.
 -- Assumes nothing.
 use Prim.Native.Nat.{ℕ, ◌≤◌}
-use native.Mathlib.Omega.{arith}
 use mathlib.Core.Path.{◌≡◌, refl, sym, ap, ◌∙◌}
 use mathlib.Core.Logic.{⊎_elim}
 use mathlib.Core.Bool.{Bool, true, false, ◌&&◌, and-true, and-false}
@@ -11,8 +10,8 @@ use lib.Dec.{ltb}
 use borrow.Author.Tests.{not-false}
 use Rattle.basics.proofs.Bools.{both, and_both}
 use Rattle.basics.specs.Lists.{all}
-use Rattle.basics.specs.Refusals.{fault, code, Answer, answer, refused, success}
-use Rattle.basics.proofs.Refusals.{unrefused, passed, code-none}
+use Rattle.basics.specs.Refusals.{fault, Answer, answer, refused, success}
+use Rattle.basics.proofs.Refusals.{unrefused, passed}
 use Rattle.geometry.specs.Position.{coordinate, dimension}
 use Rattle.geometry.proofs.Axes.{two_or_three}
 use Rattle.grid.specs.Containers.{containers}
@@ -29,7 +28,7 @@ use Rattle.table.proofs.Libraries.{room-used}
 use Rattle.rows.specs.Check.{Walk, walk, check_tests, checking}
 use Rattle.rows.specs.Damage.{good_row, sound_rows, sound, library_tests}
 use Rattle.rows.specs.Posts.{plus_zero, good_in, Divided, Checked}
-use Rattle.rows.proofs.Walk.{walk_same}
+use Rattle.rows.proofs.Walks.{walk_same}
 
 -- ---- a row by itself, as the code tests it
 
@@ -86,10 +85,6 @@ module _ (s : GridSearch) (l : Library) (e : fault (library_tests s l) ≡ none)
 pub whole-passes : (s : GridSearch) (l : Library) → too_long (space l) ≡ false → Whole s l → fault (library_tests s l) ≡ none
 unfolding library_tests
 whole-passes s l t w = passed (library_tests s l) (t, (rw (together s l w), tt))
-
-pub numbered : (s : GridSearch) (l : Library) → 0 ≡ code (fault (library_tests s l)) → fault (library_tests s l) ≡ none
-unfolding library_tests
-numbered s l e = code-none (library_tests s l) ((λ h. omega arith), ((λ h. omega arith), tt)) e
 
 -- what the functions below ask
 

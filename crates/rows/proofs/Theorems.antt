@@ -8,7 +8,7 @@ use mathlib.Core.List.{List, [], ◌∷◌, map}
 use mathlib.Core.Option.{Option, none, some, some-ne-none, some-injective}
 use lib.ListN.{length, take}
 use Rattle.basics.specs.Lists.{all}
-use Rattle.basics.specs.Refusals.{fault, is_none, code, answer}
+use Rattle.basics.specs.Refusals.{fault, is_none, code, Answer, answer, refused, success}
 use Rattle.basics.proofs.Bools.{by_test}
 use Rattle.table.specs.declared.Row.{Row}
 use Rattle.table.specs.Rows.{Slot, slot_of, chain, sorted}
@@ -16,8 +16,7 @@ use Rattle.table.specs.Library.{Library, table, space, too_long, sound_layout}
 use Rattle.grid_search.specs.declared.GridSearch.{GridSearch}
 use Rattle.grid_search.specs.Sheet.{sheet_ok}
 use Rattle.rows.specs.Damage.{good_row, sound_rows, sound, library_tests}
-use Rattle.rows.specs.Check.{above, Walk, walk_from, walk, check_tests, checking, walked}
-use Rattle.rows.specs.declared.Walked.{Walked}
+use Rattle.rows.specs.Check.{above, Walk, walk_from, walk, check_tests, checking}
 use Rattle.rows.specs.Claims.{Told, damage, SameDamage}
 
 module _ (good : Row → Bool) where
@@ -114,9 +113,14 @@ told s rows =
     at : (i : ℕ) (e : (walk (good_row s) rows).bad ≡ some i) → (first s rows i e).index ≡ i
     at i e = omega (arith, (first s rows i e).number)
 
-pub same-damage : SameDamage
-unfolding damage checking check_tests library_tests fault code answer sound walk
-same-damage s l =
+-- what the answer of a check turns other calls away with
+unfoldable pub fault_of : Answer Walk → Option ℕ
+fault_of (refused n) = some n
+fault_of (success w) = cond (is_none w.bad) none (some 13)
+
+pub faults : (s : GridSearch) (l : Library) → fault (library_tests s l) ≡ fault_of (checking s l)
+unfolding fault_of checking check_tests library_tests fault answer sound walk is_none
+faults s l =
     by_test (too_long (space l))
     (λ t. rw t)
     (λ t. by_test (sheet_ok s)
@@ -125,10 +129,14 @@ same-damage s l =
     (λ b. rw (t, a, b)))
     (λ a. rw (t, a)))
   where
-    number : (b : Bool) → code (cond (not b) (some 13) none) ≡ cond b 0 13
+    number : (b : Bool) → cond {A = Option ℕ} (not b) (some 13) none ≡ cond b none (some 13)
     number true = refl
     number false = refl
 
--- the number that each answer of the check stands for
-pub in_calls : (s : GridSearch) (l : Library) {r a : Walked} → walked r ≡ checking s l → r ≡ a → damage (walked a) ≡ code (fault (library_tests s l))
-in_calls s l g e = ap damage (sym (ap walked e) ∙ g) ∙ sym (same-damage s l)
+code-of : (a : Answer Walk) → code (fault_of a) ≡ damage a
+unfolding code fault_of damage is_none
+code-of (refused n) = refl
+code-of (success w) = by_test (is_none w.bad) (λ e. rw e) (λ e. rw e)
+
+pub same-damage : SameDamage
+same-damage s l = ap code (faults s l) ∙ code-of (checking s l)

@@ -2,15 +2,18 @@
 -- Assumes nothing.
 use Rattle.std.specs.Prelude.{ℕ, suc, Bool, true, not, cond, ◌&&◌, List, [], ◌∷◌}
 use Rattle.std.proofs.Math.Option.{Option, none, some}
-use Rattle.basics.specs.Refusals.{Test, refuse, fault, Answer, answer, refused, success}
+use Rattle.basics.specs.Refusals.{Test, refuse, fault, Answer, answer}
 use Rattle.grid_search.specs.declared.GridSearch.{GridSearch}
 use Rattle.grid_search.specs.Sheet.{sheet_ok}
 use Rattle.table.specs.declared.Row.{Row}
 use Rattle.table.specs.Rows.{Slot, slot_of, before}
 use Rattle.table.specs.Library.{Library, table, space, too_long, sound_layout}
 use Rattle.rows.specs.Damage.{good_row}
-use Rattle.rows.specs.declared.Walked.{Walked}
-use Rattle.rows.specs.declared.Walked.TheVariants.{Bad, Sound, Refused}
+use Rattle.std.specs.Prelude as prelude
+use Rattle.std.specs.Prelude.{Some, None, Result}
+use Rattle.basics.specs.declared.Refusal.{Refusal}
+use Rattle.basics.specs.Answers.{answered}
+use Rattle.rows.specs.declared.Walk as code
 
 -- a slot stands above the one before it, where there is one
 unfoldable pub above : Option Slot → Slot → Bool
@@ -49,8 +52,13 @@ unfoldable pub checking : GridSearch → Library → Answer Walk
 unfolding answer fault check_tests walk good_row table
 checking s l = answer (fault (check_tests s l)) (walk (good_row s) (table l))
 
--- the answer's number, or what it tells
-abbrev pub walked : Walked → Answer Walk
-walked (Bad i n) = success (record { bad = some i; visited = n })
-walked (Sound n) = success (record { bad = none; visited = n })
-walked (Refused n) = refused n
+-- what the code's walk tells, and the answer's number, or what it tells
+abbrev pub row_told : prelude.Option ℕ → Option ℕ
+row_told (Some i) = some i
+row_told None = none
+
+abbrev pub walk_of : code.Walk → Walk
+walk_of w = record { bad = row_told w.bad; visited = w.visited }
+
+abbrev pub walked : Result code.Walk Refusal → Answer Walk
+walked = answered walk_of

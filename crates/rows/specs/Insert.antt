@@ -1,8 +1,8 @@
 -- Module 6: where a mark goes, what turns an insertion away, and what it answers and leaves.
 -- Assumes nothing.
-use Rattle.std.specs.Prelude.{ℕ, ◌/◌, ◌%◌, ◌^◌, Bool, cond, not, List, [], ◌∷◌, ◌++◌, map, eqb, length, Float}
+use Rattle.std.specs.Prelude.{ℕ, ◌/◌, ◌%◌, ◌^◌, Bool, cond, not, List, [], ◌∷◌, ◌++◌, map, eqb, length, Float, Result}
 use Rattle.basics.specs.Lists.{all, any, keep, tab}
-use Rattle.basics.specs.Refusals.{Test, refuse, fault, Answer, refused, success}
+use Rattle.basics.specs.Refusals.{Test, refuse, fault, Answer}
 use Rattle.floats.specs.Rounded.{◌⊕◌, ◌⊖◌}
 use Rattle.geometry.specs.Position.{coords, position_of, coordinate}
 use Rattle.grid.specs.Divisions.{counts}
@@ -14,8 +14,8 @@ use Rattle.table.specs.Rows.{put_in}
 use Rattle.table.specs.Library.{Library, table, write, space, roomy}
 use Rattle.rows.specs.Damage.{library_tests}
 use Rattle.rows.specs.Turn.{Turn, settle}
-use Rattle.rows.specs.declared.Inserted.{Inserted}
-use Rattle.rows.specs.declared.Inserted.TheVariants.{Stored, Refused}
+use Rattle.basics.specs.declared.Refusal.{Refusal}
+use Rattle.basics.specs.Answers.{answered}
 
 -- ---- on the sheet
 
@@ -90,11 +90,5 @@ unfolding settle fault insert_tests rows_with table write
 insertion s l i x = let rows = rows_with s i x (table l) in settle (fault (insert_tests s l i x)) (length rows) (write rows l) l
 
 -- the answer's number or its count
-abbrev pub inserted : Inserted → Answer ℕ
-inserted (Stored n) = success n
-inserted (Refused n) = refused n
-
--- how many rows are in use after it
-abbrev pub used_after : Inserted → ℕ → ℕ
-used_after (Stored n) used = n
-used_after (Refused n) used = used
+abbrev pub inserted : Result ℕ Refusal → Answer ℕ
+inserted = answered (λ (n : ℕ). n)

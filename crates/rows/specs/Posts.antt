@@ -8,14 +8,15 @@ use Rattle.floats.specs.Tests.{same_bits}
 use Rattle.geometry.specs.Position.{position_of, coordinate, dimension}
 use Rattle.grid.specs.Divisions.{counts, division}
 use Rattle.grid_search.specs.declared.GridSearch.{GridSearch}
-use Rattle.grid_search.specs.Sheet.{tolerance_of}
 use Rattle.table.specs.declared.Row.{Row}
 use Rattle.table.specs.Rows.{Slot, slotted, key_in, x_in, y_in, z_in, put_in}
 use Rattle.table.specs.Library.{Library, table}
 use Rattle.table.specs.Posts.{Room}
-use Rattle.rows.specs.Insert.{outside_sheet, overshoots, container_of, halo, rows_with, insert_tests}
-use Rattle.rows.specs.declared.Judged.{Judged}
-use Rattle.rows.specs.declared.Judged.TheVariants as judged
+use Rattle.rows.specs.Insert.{outside_sheet, overshoots, container_of, rows_with, insert_tests}
+use Rattle.std.specs.Prelude as found
+use Rattle.std.specs.Prelude.{Some, None, Result, Ok, Err}
+use Rattle.basics.specs.declared.Refusal.{Refusal}
+use Rattle.basics.specs.Answers.{refusal_number}
 
 abbrev pub plus_zero : Float → Bool
 plus_zero z = same_bits z zero_f
@@ -58,40 +59,29 @@ unfolding has
 joined ks k = cond (has k ks) ks (ks ++ k ∷ [])
 
 -- with the container of one more point, unless it is outside the sheet; none where a ratio of the point exceeds its divisions
-unfoldable pub look : GridSearch → List ℕ → List Float → Option (List ℕ)
+unfoldable pub look : GridSearch → List ℕ → List Float → found.Option (List ℕ)
 unfolding outside_sheet overshoots joined container_of
-look s ks p = cond (outside_sheet s p) (some ks) (cond (overshoots s p) none (some (joined ks (container_of s p))))
+look s ks p = cond (outside_sheet s p) (Some ks) (cond (overshoots s p) None (Some (joined ks (container_of s p))))
 
 -- with those of several points
-unfoldable pub look_all : GridSearch → Option (List ℕ) → List (List Float) → Option (List ℕ)
+unfoldable pub look_all : GridSearch → found.Option (List ℕ) → List (List Float) → found.Option (List ℕ)
 unfolding look
 look_all s ks [] = ks
-look_all s none (p ∷ ps) = none
-look_all s (some ks) (p ∷ ps) = look_all s (look s ks p) ps
+look_all s None (p ∷ ps) = None
+look_all s (Some ks) (p ∷ ps) = look_all s (look s ks p) ps
 
--- the first n entries, none where n is 0
-abbrev pub front : ℕ → List ℕ → Option (List ℕ)
-front zero l = none
-front (suc n) l = some (take (suc n) l)
-
--- a point looked at, with n containers in the list before and r after
-pub record Added (s : GridSearch) (p : List Float) (n : ℕ) (l : List ℕ) (r : ℕ) (l' : List ℕ) : Type 0 where
-  pub most : r ≤ n + 1
-  pub found : front r l' ≡ look s (take n l) p
-
--- a mark's position and halo looked at, with r containers in the list after
-pub record FoundTargets (s : GridSearch) (x : List Float) (r : ℕ) (l' : List ℕ) : Type 0 where
-  pub most : r ≤ length l'
-  pub found : front r l' ≡ look_all s (some []) (x ∷ halo (tolerance_of s.tolerance) x)
+-- a point looked at, with these containers before and after
+abbrev pub Looks : GridSearch → List Float → List ℕ → found.Option (Unit {0}) → List ℕ → Type 0
+Looks s p ks (Some u) after = look s ks p ≡ Some after
+Looks s p ks None after = look s ks p ≡ None
 
 -- ---- an insertion judged before anything is written
 
--- it is not turned away, and the mark in each of the first n containers of the list is the mark in each of its containers
-pub record Accepts (s : GridSearch) (l : Library) (i : ℕ) (x : List Float) (n : ℕ) (into : List ℕ) : Type 0 where
+-- it is not turned away, and the mark in each of these containers is the mark in each of its containers
+pub record Accepts (s : GridSearch) (l : Library) (i : ℕ) (x : List Float) (into : List ℕ) : Type 0 where
   pub passes : fault (insert_tests s l i x) ≡ none
-  pub most : n ≤ length into
-  pub rows_are : put_in i (position_of x) (take n into) (table l) ≡ rows_with s i x (table l)
+  pub rows_are : put_in i (position_of x) into (table l) ≡ rows_with s i x (table l)
 
-abbrev pub Judges : GridSearch → Library → ℕ → List Float → Judged → List ℕ → Type 0
-Judges s l i x (judged.Into n) into = Accepts s l i x n into
-Judges s l i x (judged.Refused n) into = fault (insert_tests s l i x) ≡ some n
+abbrev pub Judges : GridSearch → Library → ℕ → List Float → Result (List ℕ) Refusal → Type 0
+Judges s l i x (Ok into) = Accepts s l i x into
+Judges s l i x (Err e) = fault (insert_tests s l i x) ≡ some (refusal_number e)

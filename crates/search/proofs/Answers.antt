@@ -7,7 +7,7 @@ use mathlib.Core.Option.{Option, none, some}
 use mathlib.Core.List.{List, [], ◌∷◌, ◌++◌, append-nil}
 use lib.Ieee.{Float}
 use Rattle.basics.specs.Lists.{any}
-use Rattle.basics.specs.Refusals.{Test, fault, code, answer, success, refused}
+use Rattle.basics.specs.Refusals.{Test, fault, answer, success, refused}
 use Rattle.basics.proofs.Refusals.{fault-right}
 use Rattle.grid_search.specs.declared.GridSearch.{GridSearch}
 use Rattle.table.specs.Library.{Library, table}
@@ -30,8 +30,8 @@ module _ (s : GridSearch) (l : Library) (x : List Float) where
   tests_are = ap (λ (ts : List Test). library_tests s l ++ ts) (sym (append-nil (position_tests s x (x ∷ []))))
 
   -- 24, 13, 2, 3, 11
-  pub search-first : {n : ℕ} → n ≡ code (fault (library_tests s l ++ position_tests s x [])) → (n ≡ 0 → ⊥) → refused n ≡ search_answer s l x
-  search-first e h = turned_away (ap fault tests_are ∙ turned_first s l x (x ∷ []) [] e h)
+  pub search-first : {n : ℕ} → fault (library_tests s l ++ position_tests s x []) ≡ some n → refused n ≡ search_answer s l x
+  search-first e = turned_away (ap fault tests_are ∙ turned_first s l x (x ∷ []) [] e)
 
   module _ (k : Called s l x) where
     past-library : fault (search_tests s l x) ≡ fault (position_tests s x (x ∷ []))

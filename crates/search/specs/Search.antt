@@ -1,20 +1,22 @@
 -- Module 7: the near rows, and apart from them the choice among them.
 -- Assumes nothing.
-use Rattle.std.specs.Prelude.{ℕ, Bool, ◌&&◌, ◌||◌, cond, List, [], ◌∷◌, ◌++◌, eqb, ltb, Float}
+use Rattle.std.specs.Prelude.{ℕ, Bool, ◌&&◌, ◌||◌, cond, List, [], ◌∷◌, ◌++◌, eqb, ltb, Float, Result}
+use Rattle.std.specs.Prelude as declared
 use Rattle.std.proofs.Math.Option.{Option, none, some, Option-elim}
 use Rattle.std.specs.Float.Ieee.{lt, le, eq}
 use Rattle.basics.specs.Lists.{keep}
-use Rattle.basics.specs.Refusals.{Test, fault, Answer, refused, success, answer}
+use Rattle.basics.specs.Answers.{answered}
+use Rattle.basics.specs.Refusals.{Test, fault, Answer, answer}
+use Rattle.basics.specs.declared.Refusal.{Refusal}
 use Rattle.geometry.specs.Position.{coords}
 use Rattle.geometry.specs.Distances.{point_point}
 use Rattle.grid_search.specs.declared.GridSearch.{GridSearch}
+use Rattle.table.specs.declared.ItemId.{ItemId}
 use Rattle.table.specs.declared.Row.{Row}
 use Rattle.table.specs.Rows.{key_in, id_in}
 use Rattle.table.specs.Library.{Library, table}
 use Rattle.rows.specs.Damage.{library_tests}
 use Rattle.rows.specs.Insert.{container_of, position_tests}
-use Rattle.search.specs.declared.Found.{Found}
-use Rattle.search.specs.declared.Found.TheVariants.{Id, Nothing, Refused}
 
 -- a row is near a position: it is in the position's container, and its computed distance is at most tol_dist
 unfoldable pub is_near : GridSearch → List Float → Row → Bool
@@ -62,7 +64,11 @@ unfoldable pub search_answer : GridSearch → Library → List Float → Answer 
 unfolding fault search_tests chosen near_rows table answer
 search_answer s l x = answer (fault (search_tests s l x)) (chosen s x (near_rows s x (table l)))
 
-abbrev pub found : Found → Answer (Option ℕ)
-found (Id i) = success (some i.0)
-found Nothing = success none
-found (Refused n) = refused n
+-- the id that the code finds, if there is one
+abbrev pub id_of : declared.Option ItemId → Option ℕ
+id_of declared.None = none
+id_of (declared.Some i) = some i.0
+
+-- what a search answers
+abbrev pub found : Result (declared.Option ItemId) Refusal → Answer (Option ℕ)
+found = answered id_of

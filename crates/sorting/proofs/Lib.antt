@@ -1,7 +1,6 @@
--- Laws: of sorted lists, which callers cite, and of lists sorted by parts.
+-- Laws: of sorted lists, which callers cite, and of the walk that leaves out repeats.
 pub mod Ascent
 pub mod Counts
 pub mod Orders
-pub mod Mixes
-pub mod Splits
 pub mod Distinct
+pub mod Marks

@@ -2,17 +2,16 @@
 -- Assumes nothing.
 use Prim.Native.Nat.{ℕ, ◌-◌, ◌≤◌, ◌<◌}
 use native.Mathlib.Omega.{arith}
-use mathlib.Core.Path.{◌≡◌, refl, sym, ap, ◌∙◌}
+use mathlib.Core.Path.{◌≡◌, refl, ap, ◌∙◌}
 use mathlib.Core.Bool.{true, false}
 use mathlib.Core.Option.{none, some}
 use mathlib.Core.List.{List, [], ◌∷◌, map}
 use lib.Dec.{eqb}
 use lib.ListN.{length, take}
-use lib.Seq.{length-take-le}
 use Rattle.basics.proofs.Bools.{by_test}
 use Rattle.basics.specs.Lists.{has}
-use Rattle.basics.specs.Refusals.{fault, code, refused, success}
-use Rattle.basics.proofs.Refusals.{fault_stop, fault-right, code-some}
+use Rattle.basics.specs.Refusals.{fault, refused, success}
+use Rattle.basics.proofs.Refusals.{fault_stop, fault-right}
 use Rattle.grid_search.specs.declared.GridSearch.{GridSearch}
 use Rattle.table.specs.Rows.{id_in, own, without}
 use Rattle.basics.specs.Lists.{leading}
@@ -20,11 +19,10 @@ use Rattle.strike.specs.Posts.{Leaves, Strikes}
 use Rattle.table.specs.Library.{Library, table, blank}
 use Rattle.table.specs.Posts.{Room}
 use Rattle.table.proofs.Ids.{length_parts}
-use Rattle.table.proofs.Libraries.{length-table, table-ids, room-used, write-used, counted}
-use Rattle.strike.proofs.Removal.{leading-most}
+use Rattle.table.proofs.Libraries.{length-table, table-ids, room-used, write-used}
 use Rattle.rows.specs.Damage.{library_tests}
 use Rattle.rows.specs.Turn.{settle, Gives}
-use Rattle.rows.proofs.Check.{whole, numbered}
+use Rattle.rows.proofs.Check.{whole}
 use Rattle.strike.specs.Strike.{id_tests, strike_tests, striking}
 
 -- ---- the first row of an id tells whether it has one
@@ -38,33 +36,27 @@ leading-has v (x ∷ s) =
 
 module _ (s : GridSearch) (l : Library) (i : ℕ) where
   -- 24 or 13
-  pub refused-first : {n : ℕ} → n ≡ code (fault (library_tests s l)) → (n ≡ 0 → ⊥) → Gives (striking s l i) (refused n) l
+  pub refused-first : {n : ℕ} → fault (library_tests s l) ≡ some n → Gives (striking s l i) (refused n) l
   unfolding striking settle strike_tests
-  refused-first {n} e h = rw (fault_stop (library_tests s l) (id_tests i (table l)) n (code-some (fault (library_tests s l)) n e h)) (record { answers = refl; library-is = refl })
+  refused-first {n} e = rw (fault_stop (library_tests s l) (id_tests i (table l)) n e) (record { answers = refl; library-is = refl })
 
-  module _ {n : ℕ} (c : n ≡ code (fault (library_tests s l))) (z : n ≡ 0) where
-    passes : fault (library_tests s l) ≡ none
-    passes = numbered s l (sym z ∙ c)
-
+  module _ (passes : fault (library_tests s l) ≡ none) where
     pub room : Room l l.used
     room = room-used l (whole s l passes).layout
-
-    ids-length : length (take l.used l.ids) ≡ l.used
-    ids-length = length-take-le l.used l.ids room.1.0
 
     row_tests_lem : fault (strike_tests s l i) ≡ fault (id_tests i (table l))
     unfolding strike_tests
     row_tests_lem = fault-right (library_tests s l) (id_tests i (table l)) passes
 
-    module _ {first : ℕ} (f : first ≡ leading i (take l.used l.ids)) where
-      -- 26
-      pub refused_none : first ≡ l.used → Gives (striking s l i) (refused 26) l
-      unfolding striking settle id_tests fault
-      refused_none h =
-          let e : has i (map id_in (table l)) ≡ false = ap (has i) (table-ids l room.1.0) ∙ (leading-has i (take l.used l.ids)).1 (omega (arith, f, ids-length)) in
-          let d : fault (strike_tests s l i) ≡ some 26 = row_tests_lem ∙ rw e in
-          rw d (record { answers = refl; library-is = refl })
+    -- 26
+    pub refused_none : leading i (take l.used l.ids) ≡ length (take l.used l.ids) → Gives (striking s l i) (refused 26) l
+    unfolding striking settle id_tests fault
+    refused_none h =
+        let e : has i (map id_in (table l)) ≡ false = ap (has i) (table-ids l room.1.0) ∙ (leading-has i (take l.used l.ids)).1 h in
+        let d : fault (strike_tests s l i) ≡ some 26 = row_tests_lem ∙ rw e in
+        rw d (record { answers = refl; library-is = refl })
 
+    module _ {first : ℕ} (f : leading i (take l.used l.ids) ≡ first) where
       pub strikes : Strikes i first l
       strikes = record { room = room; first = omega (arith, f) }
 
@@ -78,12 +70,11 @@ module _ (s : GridSearch) (l : Library) (i : ℕ) where
         removed_is : l.used - after.used ≡ length (own i (table l))
         removed_is = omega (arith, left_is, length_parts i (table l), length-table l)
 
-        -- how many went, and the library with the count that is left
-        pub accepted : (first ≡ l.used → ⊥) → Gives (striking s l i) (success (l.used - after.used)) (counted (l.used - (l.used - after.used)) after)
+        -- how many went, and the library that is left
+        pub accepted : first < length (take l.used l.ids) → Gives (striking s l i) (success (l.used - after.used)) after
         unfolding striking settle id_tests fault
         accepted h =
-            let some_row : leading i (take l.used l.ids) < length (take l.used l.ids) = omega (arith, f, ids-length, leading-most i (take l.used l.ids)) in
+            let some_row : leading i (take l.used l.ids) < length (take l.used l.ids) = omega (arith, f) in
             let e : has i (map id_in (table l)) ≡ true = ap (has i) (table-ids l room.1.0) ∙ (leading-has i (take l.used l.ids)).0 some_row in
             let g : fault (strike_tests s l i) ≡ none = row_tests_lem ∙ rw e in
-            let n : l.used - (l.used - after.used) ≡ after.used = omega (arith, left_most) in
-            rw (g, n) (record { answers = ap success removed_is; library-is = d })
+            rw g (record { answers = ap success removed_is; library-is = d })

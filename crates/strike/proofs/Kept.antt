@@ -8,6 +8,8 @@ use mathlib.Core.Option.{Option, none, some}
 use mathlib.Core.List.{map}
 use lib.ListN.{length}
 use borrow.Author.Tests.{not-false}
+use Rattle.std.specs.Prelude.{Result, Ok}
+use Rattle.basics.specs.declared.Refusal.{Refusal}
 use Rattle.basics.specs.Lists.{has}
 use Rattle.basics.specs.Refusals.{fault, Answer, refused, success}
 use Rattle.basics.proofs.Refusals.{unrefused, fault_left, fault-right}
@@ -20,8 +22,6 @@ use Rattle.rows.specs.Damage.{good_row, library_tests}
 use Rattle.rows.specs.Turn.{settle, Gives}
 use Rattle.rows.proofs.Check.{Whole, whole, not-long, whole-passes}
 use Rattle.rows.proofs.Kept.{settle_keeps}
-use Rattle.strike.specs.declared.Struck.{Struck}
-use Rattle.strike.specs.declared.Struck.TheVariants.{Removed}
 use Rattle.strike.specs.Strike.{id_tests, strike_tests, striking, struck}
 
 -- ---- a striking that is accepted
@@ -90,6 +90,6 @@ module _ (s : GridSearch) (l : Library) (i : ℕ) where
       go none = omega (arith, struck-used l i)
       go (some n) = omega arith
 
-  pub removed_at_most : {r : Struck} {n : ℕ} {after : Library} → Gives (striking s l i) (struck r) after → r ≡ Removed n → n ≤ l.used
+  pub removed-at-most : {r : Result ℕ Refusal} {n : ℕ} {after : Library} → Gives (striking s l i) (struck r) after → r ≡ Ok n → n ≤ l.used
   unfolding amount
-  removed_at_most g e = omega (arith, ap amount (sym (ap struck e) ∙ g.answers), at_most)
+  removed-at-most g e = omega (arith, ap amount (sym (ap struck e) ∙ g.answers), at_most)

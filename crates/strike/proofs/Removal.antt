@@ -1,41 +1,37 @@
--- The rows of an id taken out: the walk to the first of them, the pass that closes the gaps, and zeros past the rows that are left.
+-- The rows of an id taken out: the first of them, the pass that closes the gaps, and zeros past the rows that are left.
 -- Assumes nothing.
 use Prim.Native.Nat.{ℕ, zero, suc, ◌+◌, ◌≤◌, ◌<◌}
-use native.Mathlib.Nat.{le_of_suc-le-suc, not-suc-le-zero}
+use native.Mathlib.Nat.{le_of_suc-le-suc, not-suc-le-zero, add-zero}
 use native.Mathlib.Numerals.{add-one}
 use native.Mathlib.Omega.{arith}
 use mathlib.Core.Path.{◌≡◌, refl, sym, ap, ap₂, ◌∙◌, subst}
-use mathlib.Core.Bool.{true, false, cond}
+use mathlib.Core.Bool.{true, false, not, cond}
 use mathlib.Core.List.{List, [], ◌∷◌, ◌++◌, map}
-use lib.Dec.{eqb}
-use lib.ListN.{length, get_or, take, drop, set, length-map, length-set}
-use lib.Seq.{slice-cons, slice_empty, length-take-le, get_or-take, get_or-set_same, get_or-set_other}
+use lib.Dec.{ltb, eqb}
+use lib.ListN.{length, get_or, take, length-map, length-set}
+use lib.Seq.{length-take-le, get_or-take, get_or-set_same, get_or-set_other}
 use lib.Ieee.{nan}
+use mir.Val.{bool_byte}
+use borrow.Author.Tests.{ltb-true, ltb-false}
+use Rattle.std.specs.Prelude.{Option, position}
+use Rattle.std.specs.List.{position_or_len}
+use Rattle.std.proofs.lemmas.List.Recursion.{is_position_or_len}
 use Rattle.basics.proofs.Bools.{by_test}
 use Rattle.basics.specs.Lists.{keep, tab, over}
 use Rattle.floats.specs.Rounded.{zero_f}
 use Rattle.table.specs.declared.Row.{Row}
 use Rattle.table.specs.Rows.{key_in, id_in, x_in, y_in, z_in, row_of, without}
 use Rattle.basics.specs.Lists.{leading}
-use Rattle.strike.specs.Posts.{Leaves, two, Strikes, Lowered, LoweredTwo, Closed, cleared_rows}
-use Rattle.table.specs.Library.{Library, library, row_at, rows_of, table, write, blank, lengths}
-use Rattle.table.specs.Posts.{cleared, Long, Room, each_of, written}
+use Rattle.strike.specs.Posts.{FirstWith, Leaves, Strikes, Closed}
+use Rattle.table.specs.Library.{Library, row_at, rows_of, table, write, blank, lengths}
+use Rattle.table.specs.Posts.{cleared, Long, Room, each_of, written, counted, cleared_from}
 use Rattle.table.proofs.Cleared.{cleared-over}
 use Rattle.table.proofs.Ids.{length_without}
-use Rattle.table.proofs.Libraries.{length-rows, length-table, table-keys, table-ids, table-xs, table-ys, table-zs, counted}
+use Rattle.table.proofs.Libraries.{length-rows, length-table, table-keys, table-ids, table-xs, table-ys, table-zs}
 
--- ---- the walk to the first row of an id
+-- ---- the first row of an id
 
-pub leading_step : (v n : ℕ) (s : List ℕ) (i : ℕ) → i < n → n ≤ length s
-    → leading v (drop i (take n s)) ≡ cond (eqb (get_or s i 0) v) 0 (suc (leading v (drop (i + 1) (take n s))))
-unfolding leading
-leading_step v n s i h k = rw (add-one, slice-cons i n s 0 h k)
-
-pub leading_end : (v n : ℕ) (s : List ℕ) (i : ℕ) → i ≤ n → n ≤ i → leading v (drop i (take n s)) ≡ 0
-unfolding leading
-leading_end v n s i h k = let e : i ≡ n = omega arith in rw (e, slice_empty n s)
-
-leading-before : (v : ℕ) (s : List ℕ) (j : ℕ) → j < leading v s → eqb (get_or s j 0) v ≡ false
+pub leading-before : (v : ℕ) (s : List ℕ) (j : ℕ) → j < leading v s → eqb (get_or s j 0) v ≡ false
 unfolding leading
 leading-before v [] j h = absurd (not-suc-le-zero h)
 leading-before v (x ∷ s) zero h = by_test (eqb x v) (λ e. absurd (not-suc-le-zero (rw e at h))) (λ e. e)
@@ -45,6 +41,17 @@ pub leading-most : (v : ℕ) (s : List ℕ) → leading v s ≤ length s
 unfolding leading
 leading-most v [] = omega arith
 leading-most v (x ∷ s) = by_test (eqb x v) (λ e. rw e (omega arith)) (λ e. rw e (omega (arith, leading-most v s)))
+
+-- as the library's search tells it
+pub first-with : (v : ℕ) (s : List ℕ) {r : Option ℕ} → r ≡ position (λ j. eqb j v) s → FirstWith v s r
+unfolding leading
+first-with v s e =
+    rw e
+    (by_test (ltb (position_or_len (λ j. eqb j v) s) (length s)) (λ t. rw t (sym same, ltb-true _ _ t))
+    (λ t. rw t (omega (arith, ltb-false _ _ t, same, leading-most v s))))
+  where
+    same : position_or_len (λ j. eqb j v) s ≡ leading v s
+    same = sym (is_position_or_len (leading v) (λ j. eqb j v) refl (λ x xs. by_test (eqb x v) (λ t. rw t) (λ t. rw t (omega arith))) s)
 
 -- ---- lists of rows that grow by one
 
@@ -87,39 +94,6 @@ module _ (at : ℕ) (row : Row) (l : Library) where
       λ i. length-set l.keys at (key_in row) i ∷ length-set l.ids at (id_in row) i
       ∷ length-set l.xs at (x_in row) i ∷ length-set l.ys at (y_in row) i ∷ length-set l.zs at (z_in row) i ∷ []
 
--- ---- a row read, and written at an index
-
-pub lowered : {id at i r : ℕ} {row : Row} {l after : Library} → row ≡ row_at l i → after ≡ each_of (written at) row l
-    → r ≡ cond (eqb (id_in row) id) at (at + 1) → Lowered id at i r l after
-lowered {id} {at} {i} {r} {row} {l} e m n = record {
-  moved = m ∙ ap (λ (q : Row). each_of (written at) q l) e;
-  next = n ∙ ap (λ (q : Row). cond (eqb (id_in q) id) at (at + 1)) e;
-}
-
--- ---- two rows at a time
-
--- each list with two entries written
-abbrev pub two_rows : ℕ → ℕ → ℕ → Library → Library
-two_rows i at next l =
-    library (two i at next 0 l.keys) (two i at next 0 l.ids) (two i at next nan l.xs) (two i at next nan l.ys) (two i at next nan l.zs) l.used
-
-pub lowered-two : {id at i next r : ℕ} (l : Library) {after : Library} → at ≤ i → next ≡ cond (eqb (get_or l.ids i 0) id) at (at + 1)
-    → r ≡ cond (eqb (get_or l.ids (i + 1) 0) id) next (next + 1) → after ≡ two_rows i at next l → LoweredTwo id at i r l after
-lowered-two {id} {at} {i} {next} {r} l {after} h e f d = record {
-  between_them = next;
-  one = record { moved = refl; next = e };
-  other = record {
-    moved = d ∙ λ k. library (column 0 l.keys k) (column 0 l.ids k) (column nan l.xs k) (column nan l.ys k) (column nan l.zs k) l.used;
-    next = f ∙ ap (λ (j : ℕ). cond (eqb j id) next (next + 1)) (sym (past 0 l.ids));
-  };
-}
-  where
-    past : {A : Type 0} (v : A) (s : List A) → get_or (set s at (get_or s i v)) (i + 1) v ≡ get_or s (i + 1) v
-    past v s = get_or-set_other s at (i + 1) (get_or s i v) v (λ e. omega arith)
-
-    column : {A : Type 0} (v : A) (s : List A) → two i at next v s ≡ set (set s at (get_or s i v)) next (get_or (set s at (get_or s i v)) (i + 1) v)
-    column {A = A} v s = ap (λ (x : A). set (set s at (get_or s i v)) next x) (sym (past v s))
-
 -- ---- the pass that closes the gaps: the first i rows are looked at, and `at` of them are left, at the front; those from i on are as they were
 
 pub record Closing (id at i : ℕ) (l now : Library) : Type 0 where
@@ -128,6 +102,7 @@ pub record Closing (id at i : ℕ) (l now : Library) : Type 0 where
   pub front : rows_of now at ≡ without id (rows_of l i)
   pub rest : (j : ℕ) → i ≤ j → row_at now j ≡ row_at l j
   pub lengths-are : lengths now ≡ lengths l
+  pub used-is : now.used ≡ l.used
 
 rows_next : (l : Library) (n : ℕ) → rows_of l (n + 1) ≡ rows_of l n ++ row_at l n ∷ []
 unfolding rows_of
@@ -143,7 +118,7 @@ module _ {id from : ℕ} {l : Library} (s : Strikes id from l) where
       sym (ap (λ (i : ℕ). eqb i id) (get_or-take l.used l.ids j 0 (omega (arith, first-most))))
       ∙ leading-before id (take l.used l.ids) j (omega (arith, s.first))
 
-pub closing_start : {id from : ℕ} (l : Library) → Strikes id from l → Closing id from from l (counted 0 l)
+pub closing_start : {id from : ℕ} (l : Library) → Strikes id from l → Closing id from from l l
 unfolding rows_of
 closing_start {id} {from} l s = record {
   upto = first-most s;
@@ -151,24 +126,24 @@ closing_start {id} {from} l s = record {
   front = sym (without-tab id from (row_at l) (before-first s));
   rest = λ j h. refl;
   lengths-are = refl;
+  used-is = refl;
 }
 
 -- the lists are as long as they were
 pub closing_room : {id at i : ℕ} {l now : Library} → Closing id at i l now → (n : ℕ) → n ≤ l.used → Room l l.used → Room now n
 closing_room g n h room = subst (λ (ns : List ℕ). Long ns n) (sym g.lengths-are) (omega arith)
 
+-- one turn: row i is read, and written at the index behind those that are left
 module _ {id at i : ℕ} {l now : Library} (g : Closing id at i l now) (h : i < l.used) (room : Room l l.used) where
-  pub closing_next : {r : ℕ} {after : Library} → Lowered id at i r now after → Closing id r (i + 1) l after
-  closing_next {r} {after} d = by_test (eqb (id_in (row_at l i)) id) gone kept
+  pub closing-next : {row : Row} {r : ℕ} {after : Library} → row ≡ row_at now i → after ≡ each_of (written at) row now
+      → r ≡ at + bool_byte (not (eqb (id_in row) id)) → Closing id r (i + 1) l after
+  closing-next {row} {r} {after} e m n = by_test (eqb (id_in (row_at l i)) id) gone kept
     where
       here : row_at now i ≡ row_at l i
       here = g.rest i (omega arith)
 
-      row : Row
-      row = row_at now i
-
       after_is : after ≡ each_of (written at) (row_at now i) now
-      after_is = d.moved
+      after_is = m ∙ ap (λ (q : Row). each_of (written at) q now) e
 
       front_kept : rows_of after at ≡ rows_of now at
       front_kept =
@@ -184,40 +159,36 @@ module _ {id at i : ℕ} {l now : Library} (g : Closing id at i l now) (h : i < 
       rows_are : without id (rows_of l (i + 1)) ≡ cond (eqb (id_in (row_at l i)) id) (rows_of now at) (rows_of now at ++ row_at l i ∷ [])
       rows_are = ap (without id) (rows_next l i) ∙ without-next id (rows_of l i) (row_at l i) ∙ rw g.front
 
-      next-is : r ≡ cond (eqb (id_in (row_at l i)) id) at (at + 1)
-      next-is = d.next ∙ ap (λ (q : Row). cond (eqb (id_in q) id) at (at + 1)) here
+      next-is : r ≡ at + bool_byte (not (eqb (id_in (row_at l i)) id))
+      next-is = n ∙ ap (λ (q : Row). at + bool_byte (not (eqb (id_in q) id))) (e ∙ here)
 
       gone : eqb (id_in (row_at l i)) id ≡ true → Closing id r (i + 1) l after
-      gone e =
-          let n : r ≡ at = next-is ∙ rw e in
+      gone f =
+          let k : r ≡ at = next-is ∙ rw (f, add-zero) in
           record {
             upto = omega arith;
             lower = omega (arith, g.lower);
-            front = rw n (front_kept ∙ sym (rows_are ∙ rw e));
+            front = rw k (front_kept ∙ sym (rows_are ∙ rw f));
             rest = rest_kept;
             lengths-are = lengths_kept;
+            used-is = ap (λ (j : Library). j.used) after_is ∙ g.used-is;
           }
 
       kept : eqb (id_in (row_at l i)) id ≡ false → Closing id r (i + 1) l after
-      kept e =
-          let n : r ≡ at + 1 = next-is ∙ rw e in
+      kept f =
+          let k : r ≡ at + 1 = next-is ∙ rw f in
           let there : row_at after at ≡ row_at l i = ap (λ (m : Library). row_at m at) after_is ∙ written_there at (row_at now i) now (wide g.lower) ∙ here in
           record {
             upto = omega arith;
             lower = omega (arith, g.lower);
-            front = rw n (rows_next after at ∙ ap₂ (λ (rows : List Row) (q : Row). rows ++ q ∷ []) front_kept there ∙ sym (rows_are ∙ rw e));
+            front = rw k (rows_next after at ∙ ap₂ (λ (rows : List Row) (q : Row). rows ++ q ∷ []) front_kept there ∙ sym (rows_are ∙ rw f));
             rest = rest_kept;
             lengths-are = lengths_kept;
+            used-is = ap (λ (j : Library). j.used) after_is ∙ g.used-is;
           }
         where
           wide : at ≤ i → Room now (at + 1)
           wide k = closing_room g (at + 1) (omega arith) room
-
--- and two turns
-pub closing_two : {id at i : ℕ} {l now : Library} → Closing id at i l now → i + 1 < l.used → Room l l.used → {r : ℕ} {after : Library}
-    → LoweredTwo id at i r now after → Closing id r (i + 2) l after
-closing_two {id} {at} {i} {l} {now} g h room {r} {after} d =
-    subst (λ (n : ℕ). Closing id r n l after) (omega arith) (closing_next (closing_next g (omega arith) room d.one) h room d.other)
 
 pub closing_end : {id at i : ℕ} {l now : Library} → Closing id at i l now → l.used ≤ i → Closed id at l now
 unfolding table
@@ -246,13 +217,13 @@ module _ {id r : ℕ} (l now : Library) (room : Room l l.used) (g : Closed id r 
       let d : map f rows ≡ take (length (map f rows)) c = ap (map f) (sym g.rows) ∙ e ∙ ap (λ (k : ℕ). take k c) (sym n) in
       ap (λ (k : ℕ). cleared v k c) (sym n) ∙ cleared-over v (map f rows) c c₀ d m
 
-  pub left_clear : (after : Library) → counted 0 after ≡ cleared_rows r (counted 0 now) → after.used ≡ r → Leaves (without id) l after
+  pub left-clear : (after : Library) → after ≡ counted r (cleared_from r now) → Leaves (without id) l after
   unfolding write blank table
-  left_clear after d n = λ i. record {
-    keys = (ap (λ (k : Library). k.keys) d ∙ column 0 key_in now.keys l.keys (table-keys (counted r now) closed-room.0) (entry 0 g.lengths-are)) i;
-    ids = (ap (λ (k : Library). k.ids) d ∙ column 0 id_in now.ids l.ids (table-ids (counted r now) closed-room.1.0) (entry 1 g.lengths-are)) i;
-    xs = (ap (λ (k : Library). k.xs) d ∙ column zero_f x_in now.xs l.xs (table-xs (counted r now) closed-room.1.1.0) (entry 2 g.lengths-are)) i;
-    ys = (ap (λ (k : Library). k.ys) d ∙ column zero_f y_in now.ys l.ys (table-ys (counted r now) closed-room.1.1.1.0) (entry 3 g.lengths-are)) i;
-    zs = (ap (λ (k : Library). k.zs) d ∙ column zero_f z_in now.zs l.zs (table-zs (counted r now) closed-room.1.1.1.1.0) (entry 4 g.lengths-are)) i;
-    used = (n ∙ left_is) i;
+  left-clear after d = d ∙ λ i. record {
+    keys = column 0 key_in now.keys l.keys (table-keys (counted r now) closed-room.0) (entry 0 g.lengths-are) i;
+    ids = column 0 id_in now.ids l.ids (table-ids (counted r now) closed-room.1.0) (entry 1 g.lengths-are) i;
+    xs = column zero_f x_in now.xs l.xs (table-xs (counted r now) closed-room.1.1.0) (entry 2 g.lengths-are) i;
+    ys = column zero_f y_in now.ys l.ys (table-ys (counted r now) closed-room.1.1.1.0) (entry 3 g.lengths-are) i;
+    zs = column zero_f z_in now.zs l.zs (table-zs (counted r now) closed-room.1.1.1.1.0) (entry 4 g.lengths-are) i;
+    used = left_is i;
   }

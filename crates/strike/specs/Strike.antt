@@ -1,16 +1,16 @@
 -- Striking off an id: what turns it away, and what it answers and leaves.
 -- Assumes nothing.
-use Rattle.std.specs.Prelude.{ℕ, ◌-◌, not, List, [], ◌∷◌, ◌++◌, map, length}
+use Rattle.std.specs.Prelude.{ℕ, not, List, [], ◌∷◌, ◌++◌, map, length, Result}
 use Rattle.basics.specs.Lists.{has}
-use Rattle.basics.specs.Refusals.{Test, refuse, fault, Answer, refused, success}
+use Rattle.basics.specs.Refusals.{Test, refuse, fault, Answer}
+use Rattle.basics.specs.Answers.{answered}
+use Rattle.basics.specs.declared.Refusal.{Refusal}
 use Rattle.grid_search.specs.declared.GridSearch.{GridSearch}
 use Rattle.table.specs.declared.Row.{Row}
 use Rattle.table.specs.Rows.{id_in, own, without}
 use Rattle.table.specs.Library.{Library, table, write, blank}
 use Rattle.rows.specs.Damage.{library_tests}
 use Rattle.rows.specs.Turn.{Turn, settle}
-use Rattle.strike.specs.declared.Struck.{Struck}
-use Rattle.strike.specs.declared.Struck.TheVariants.{Removed, Refused}
 
 -- the id has no row: 26
 unfoldable pub id_tests : ℕ → List Row → List Test
@@ -28,11 +28,5 @@ unfolding settle fault strike_tests own without table write blank
 striking s l i = settle (fault (strike_tests s l i)) (length (own i (table l))) (write (without i (table l)) (blank l)) l
 
 -- the answer's number or its count
-abbrev pub struck : Struck → Answer ℕ
-struck (Removed n) = success n
-struck (Refused n) = refused n
-
--- how many rows are in use after it
-abbrev pub left_after : Struck → ℕ → ℕ
-left_after (Removed n) used = used - n
-left_after (Refused n) used = used
+abbrev pub struck : Result ℕ Refusal → Answer ℕ
+struck = answered (λ n. n)

@@ -11,6 +11,7 @@ ghost use Rattle.files.specs.Read.{Came};
 ghost use Rattle.surveyed.specs.Surveyed.{input_text};
 ghost use Rattle.survey.specs.Printed.{Printed};
 
+use basics::Refusal;
 use files::Input;
 use std::io;
 
@@ -32,8 +33,8 @@ fn put_input(input: Input, bytes: &[u8], text: &mut [u8; 70804]) -> usize
 {
     match input {
         Input::Whole(_) => surveyed::put_survey(bytes, text),
-        Input::Longer => outcome::put_refused(12, text),
-        Input::Unreadable => outcome::put_refused(13, text),
+        Input::Longer => outcome::put_refused(Refusal::Full, text),
+        Input::Unreadable => outcome::put_refused(Refusal::Damaged, text),
     }
 }
 

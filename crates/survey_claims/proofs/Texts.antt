@@ -11,7 +11,7 @@ use Rattle.basics.proofs.Bools.{and_left, and_right}
 use Rattle.records.specs.declared.Record.{Record}
 use Rattle.text.specs.Text.{decimal}
 use Rattle.lines.specs.Lines.{lines}
-use Rattle.lines.proofs.Lines.{lines_none, lines-joined}
+use Rattle.lines.proofs.LineLaws.{lines_none, lines-joined}
 use Rattle.millimetres.specs.Millimetres.{nearest_to}
 use Rattle.decimals.specs.Decimals.{coordinate_text}
 use Rattle.survey_import.specs.Marks.{good_line, mark_of, malformed}

@@ -8,7 +8,6 @@ use mathlib.Core.Option.{Option, none, some}
 use mathlib.Core.List.{List, map}
 use lib.Dec.{ltb}
 use lib.ListN.{length, take, length-map}
-use borrow.Author.Tests.{le-ltb}
 use Rattle.basics.specs.Lists.{all, any}
 use Rattle.basics.specs.Refusals.{success, fault}
 use Rattle.basics.specs.Filled.{fill}
@@ -26,6 +25,7 @@ use Rattle.mark_lists.proofs.Laws.{length-marks, room, marks-written, used-writt
 use Rattle.survey_import.specs.Marks.{mark_of, malformed, bad_line}
 use Rattle.survey_import.specs.Import.{Import, import_tests, settle_import, import_lines, importing}
 use Rattle.survey_export.specs.Export.{good_mark, text_of, export_tests, exporting}
+use Rattle.survey_export.proofs.Answers.{accepts}
 use Rattle.survey_claims.specs.Claims.{Decimals, Gave, RoundTrip, Accepted}
 use Rattle.survey_claims.proofs.Marks.{bare, back, decimal_field}
 use Rattle.survey_claims.proofs.Texts.{text_lines, lines-good, lines-marks, well_formed, all_well, marks-good}
@@ -48,7 +48,7 @@ taken k ls e = rw e
 gave : (k : MarkList) (ls : List (List ℕ)) → fault (import_tests k ls) ≡ none → Gave (map mark_of ls) (import_lines k ls)
 gave k ls e =
     subst (Gave (map mark_of ls)) (sym (taken k ls e))
-    (record { answer-is = ap success (used-written (map mark_of ls) k); no_line = refl; marks-are = marks-written (map mark_of ls) k })
+    (record { answer_is = ap success (used-written (map mark_of ls) k); no_line = refl; marks_are = marks-written (map mark_of ls) k })
 
 passes : (k : MarkList) (ls : List (List ℕ)) → too_many k ≡ false → same_lengths k ≡ true → malformed ls ≡ false → holds k (length ls) ≡ true → fault (import_tests k ls) ≡ none
 unfolding import_tests
@@ -104,11 +104,6 @@ module _ (l k : MarkList) (same : mark_lengths l ≡ mark_lengths k) where
   unfolding holds
   same-holds n = ap (λ (ns : List ℕ). fits ns n) same
 
-export_passes : (l : MarkList) (room : ℕ) → too_many l ≡ false → same_lengths l ≡ true → holds l l.used ≡ true → all good_mark (marks_in l) ≡ true → length (text_of (marks_in l)) ≤ room
-    → fault (export_tests l room) ≡ none
-unfolding export_tests
-export_passes l room m v h g long = passed _ (m, (rw (v, h), (ap not g, (le-ltb room (length (text_of (marks_in l))) long, tt))))
-
 export_taken : (l : MarkList) (buffer : List ℕ) → fault (export_tests l (length buffer)) ≡ none → (exporting l buffer).answer ≡ success (length (text_of (marks_in l)))
 unfolding exporting fill
 export_taken l buffer e = rw e
@@ -137,12 +132,15 @@ module _ (k : MarkList) (ls : List (List ℕ)) (e : fault (import_tests k ls) �
       → (exporting (write_marks marks k) buffer).answer ≡ success (length (text_of (marks_in (write_marks marks k))))
   given buffer long =
       export_taken (write_marks marks k) buffer
-      (export_passes (write_marks marks k) (length buffer)
-      (same_many (write_marks marks k) k lengths ∙ tests.0)
-      (same-same_lengths (write_marks marks k) k lengths ∙ yes (same_lengths k) tests.1)
-      (same-holds (write_marks marks k) k lengths (write_marks marks k).used ∙ ap (holds k) (used-written marks k) ∙ has_room)
-      (ap (all good_mark) (marks-written marks k) ∙ marks-good ls (all_well ls tests.2))
-      long)
+      (accepts (write_marks marks k) (length buffer) (record {
+        sound = record {
+          few = same_many (write_marks marks k) k lengths ∙ tests.0;
+          level = same-same_lengths (write_marks marks k) k lengths ∙ yes (same_lengths k) tests.1;
+          in_use = same-holds (write_marks marks k) k lengths (write_marks marks k).used ∙ ap (holds k) (used-written marks k) ∙ has_room;
+        };
+        good = ap (all good_mark) (marks-written marks k) ∙ marks-good ls (all_well ls tests.2);
+        roomy = long;
+      }))
 
 lines-taken : (k : MarkList) (ls : List (List ℕ)) (n : ℕ) → (import_lines k ls).answer ≡ success n → fault (import_tests k ls) ≡ none
 unfolding import_lines

@@ -36,9 +36,9 @@ lent m = ltb m.id (2 ^ 64) && (fits binary64 m.x && (fits binary64 m.y && fits b
 
 -- an import that gave these marks: all of them, in their order and bit for bit
 pub record Gave (marks : List Record) (i : Import) : Type 0 where
-  pub answer-is : i.answer ≡ success (length marks)
+  pub answer_is : i.answer ≡ success (length marks)
   pub no_line : i.line ≡ none
-  pub marks-are : marks_in i.lists ≡ marks
+  pub marks_are : marks_in i.lists ≡ marks
 
 -- The import of an export of at least one mark, into lists that are long enough, gives the same marks.
 abbrev pub RoundTrip : Type 0

@@ -2,30 +2,29 @@
 -- Assumes nothing.
 use Prim.Native.Nat.{ℕ, ◌≤◌, ◌<◌}
 use native.Mathlib.Omega.{arith}
-use native.Mathlib.Nat.{zero-add}
-use mathlib.Core.Path.{◌≡◌, sym, ap, ◌∙◌, subst}
-use mathlib.Core.Bool.{Bool, true, false, not, ◌&&◌, and-false, not-not}
+use mathlib.Core.Path.{◌≡◌, sym, ap, ◌∙◌}
+use mathlib.Core.Bool.{Bool, true, false, not, and-false, not-not}
 use mathlib.Core.Option.{Option, none, some, some-ne-none}
-use mathlib.Core.List.{List, [], ◌∷◌}
-use lib.ListN.{length, take, drop}
-use lib.Seq.{take_all, take-append_seam}
+use mathlib.Core.List.{List}
+use lib.ListN.{length}
 use borrow.Author.Tests.{lt-ltb, le-ltb, ltb-false, leb-true, lt-leb, le-leb}
+use Rattle.std.specs.Prelude.{Result, Ok, Err}
 use Rattle.basics.specs.Lists.{all, any, over}
-use Rattle.basics.specs.Refusals.{refuse, fault, code, success}
+use Rattle.basics.specs.Refusals.{fault, success}
+use Rattle.basics.specs.declared.Refusal.{Refusal}
+use Rattle.basics.specs.Answers.{refusal_number}
 use Rattle.basics.specs.Filled.{Filled, fill}
-use Rattle.basics.proofs.Bools.{by_test, and_left, and_right, or_left, clash}
-use Rattle.basics.proofs.Refusals.{unrefused, code-some, code-none}
-use Rattle.basics.proofs.Filled.{fill-success}
+use Rattle.basics.proofs.Answers.{Raised}
+use Rattle.basics.proofs.Bools.{by_test, or_left, clash}
+use Rattle.basics.proofs.Refusals.{unrefused}
 use Rattle.table.specs.Library.{fits}
-use Rattle.mark_lists.specs.MarkLists.{MarkList, marks_in, mark_lengths, too_many, same_lengths, holds}
+use Rattle.mark_lists.specs.MarkLists.{MarkList, marks_in, too_many, same_lengths, holds}
 use Rattle.mark_lists.specs.Posts.{lists_tests, Room}
-use Rattle.mark_lists.proofs.Laws.{lists_tests_lem, room}
-use Rattle.records.specs.declared.Record.{Record}
+use Rattle.mark_lists.proofs.Laws.{room}
+use Rattle.text.specs.declared.Writer.{Writer}
 use Rattle.text.proofs.Laws.{put-over}
-use Rattle.survey_export.specs.declared.Exported.{Exported}
-use Rattle.survey_export.specs.declared.Exported.TheVariants.{Length, Refused}
 use Rattle.survey_export.specs.Export.{good_mark, text_of, export_tests, exporting, Exports}
-use Rattle.survey_export.specs.Posts.{Puts}
+use Rattle.survey_export.specs.Posts.{Stands, PutsMarks}
 
 -- ---- the tests
 
@@ -53,74 +52,58 @@ module _ (l : MarkList) where
   room-used s = room l l.used s.level s.in_use
 
   module _ (space : ℕ) where
-    pub accepted : fault (export_tests l space) ≡ none → Accepted l space
-    unfolding export_tests
-    accepted e =
-        let p = unrefused (export_tests l space) e in
-        let layout : (same_lengths l && holds l l.used) ≡ true = yes p.1.0 in
-        record {
-          sound = record { few = p.0; level = and_left (same_lengths l) (holds l l.used) layout; in_use = and_right (same_lengths l) (holds l l.used) layout };
-          good = yes p.1.1.0;
-          roomy = ltb-false space (length (text_of (marks_in l))) p.1.1.1.0;
-        }
-
     pub accepts : Accepted l space → fault (export_tests l space) ≡ none
     unfolding export_tests fault
     accepts a = rw (a.sound.few, a.sound.level, a.sound.in_use, a.good, le-ltb space (length (text_of (marks_in l))) a.roomy)
 
     -- the first that fails
-    pub fault-lists : (n : ℕ) → n ≡ code (fault (lists_tests (mark_lengths l))) → (n ≡ 0 → ⊥) → fault (export_tests l space) ≡ some n
-    unfolding export_tests fault
-    fault-lists n e h =
-        let stops : fault (refuse 24 (too_many l) ∷ refuse 13 (not (same_lengths l)) ∷ []) ≡ some n = rw lists_tests_lem at (code-some (fault (lists_tests (mark_lengths l))) n e h) in
-        by_test (too_many l) (λ t. rw t (rw t at stops))
-        (λ f. by_test (same_lengths l) (λ t. absurd (some-ne-none n (sym (rw (f, t) at stops)))) (λ g. rw (f, g) (rw (f, g) at stops)))
+    pub fault_lists : {n : ℕ} → some n ≡ fault (lists_tests l) → fault (export_tests l space) ≡ some n
+    unfolding export_tests lists_tests fault
+    fault_lists {n} e =
+        by_test (too_many l) (λ t. rw t (sym (rw t at e)))
+        (λ f. by_test (same_lengths l) (λ t. absurd (some-ne-none n (rw (f, t) at e))) (λ g. rw (f, g) (sym (rw (f, g) at e))))
 
-    pub fault-used : too_many l ≡ false → holds l l.used ≡ false → fault (export_tests l space) ≡ some 13
+    fault_used : too_many l ≡ false → holds l l.used ≡ false → fault (export_tests l space) ≡ some 13
     unfolding export_tests fault
-    fault-used f h = rw (f, h, and-false)
+    fault_used f h = rw (f, h, and-false)
 
-    pub fault_mark : Sound l → all good_mark (marks_in l) ≡ false → fault (export_tests l space) ≡ some 28
+    fault_mark : Sound l → all good_mark (marks_in l) ≡ false → fault (export_tests l space) ≡ some 28
     unfolding export_tests fault
     fault_mark s f = rw (s.few, s.level, s.in_use, f)
 
-    pub fault-room : Sound l → all good_mark (marks_in l) ≡ true → space < length (text_of (marks_in l)) → fault (export_tests l space) ≡ some 14
+    fault_room : Sound l → all good_mark (marks_in l) ≡ true → space < length (text_of (marks_in l)) → fault (export_tests l space) ≡ some 14
     unfolding export_tests fault
-    fault-room s t h = rw (s.few, s.level, s.in_use, t, lt-ltb space (length (text_of (marks_in l))) h)
+    fault_room s t h = rw (s.few, s.level, s.in_use, t, lt-ltb space (length (text_of (marks_in l))) h)
 
-  -- the lists that `lists_fault` lets pass
-  pub lists-pass : 0 ≡ code (fault (lists_tests (mark_lengths l))) → (too_many l ≡ false) × (same_lengths l ≡ true)
-  lists-pass e =
-      let p = unrefused _ (code-none (refuse 24 (too_many l) ∷ refuse 13 (not (same_lengths l)) ∷ []) ((λ z. omega arith), ((λ z. omega arith), tt)) (rw lists_tests_lem at e)) in
-      (p.0, yes p.1.0)
+  -- what is known of lists that the tests let pass
+  lists_pass : none ≡ fault (lists_tests l) → (too_many l ≡ false) × (same_lengths l ≡ true)
+  unfolding lists_tests
+  lists_pass e = let p = unrefused (lists_tests l) (sym e) in (p.0, yes p.1.0)
 
-  pub used-past : length l.ids < l.used → holds l l.used ≡ false
+  -- and whose marks in use are in them
+  pub sound : none ≡ fault (lists_tests l) → l.used ≤ length l.ids → Sound l
   unfolding holds fits
-  used-past h = lt-leb l.used (length l.ids) h
+  sound e h = let p = lists_pass e in record { few = p.0; level = p.1; in_use = le-leb l.used (length l.ids) h }
 
-  pub used-within : l.used ≤ length l.ids → holds l l.used ≡ true
+  -- or are not
+  pub fault_past : none ≡ fault (lists_tests l) → length l.ids < l.used → (space : ℕ) → fault (export_tests l space) ≡ some 13
   unfolding holds fits
-  used-within h = le-leb l.used (length l.ids) h
+  fault_past e h space = fault_used space (lists_pass e).0 (lt-leb l.used (length l.ids) h)
 
-  -- what is known past both
-  pub sound-lists : {n : ℕ} → n ≡ code (fault (lists_tests (mark_lengths l))) → n ≡ 0 → l.used ≤ length l.ids → Sound l
-  sound-lists e z h = let p = lists-pass (sym z ∙ e) in record { few = p.0; level = p.1; in_use = used-within h }
+  -- a mark was found that is none of decimals
+  pub fault_found : Sound l → (old new : Writer) (e : Refusal) → PutsMarks (marks_in l) old (Err e) new → (space : ℕ) → fault (export_tests l space) ≡ some (refusal_number e)
+  fault_found s old new e p space = rw p.1 (fault_mark space s p.0)
 
--- ---- the marks that were put
+  -- the marks were put into no buffer, and how long their text is was learnt
+  module _ {measure first : Writer} (start : measure.at ≡ 0) (p : Stands (marks_in l) measure first) where
+    pub measured : first.at ≡ length (text_of (marks_in l))
+    measured = omega (arith, p.put.put.past)
 
-pub measured : (marks : List Record) (entry exit : List ℕ) (r : Exported) (n : ℕ) → Puts marks entry exit r → r ≡ Length n → (all good_mark marks ≡ true) × (n ≡ length (text_of marks))
-measured marks entry exit r n p e = let s = subst (Puts marks entry exit) e p in (s.good, s.put.past ∙ zero-add (length (text_of marks)))
+    pub fault_short : Sound l → (space : ℕ) → space < first.at → fault (export_tests l space) ≡ some 14
+    fault_short s space h = fault_room space s p.good (rw measured at h)
 
-pub unmeasured : (marks : List Record) (entry exit : List ℕ) (r : Exported) (n : ℕ) → Puts marks entry exit r → r ≡ Refused n → all good_mark marks ≡ false
-unmeasured marks entry exit r n p e = subst (Puts marks entry exit) e p
-
-pub put_again : (marks : List Record) (entry exit : List ℕ) (r : Exported) → all good_mark marks ≡ true → Puts marks entry exit r → length (text_of marks) ≤ length entry → exit ≡ over (text_of marks) entry
-put_again marks entry exit (Length n) t p h = put-over p.put h
-put_again marks entry exit (Refused n) t p h = clash t p
-
--- none of a buffer is lent
-pub nothing : {lent : List ℕ} → length lent ≡ 0 → lent ≡ []
-nothing {lent} e = sym (take_all 0 lent (omega arith))
+    pub all_fits : Sound l → (space : ℕ) → first.at ≤ space → Accepted l space
+    all_fits s space h = record { sound = s; good = p.good; roomy = rw measured at h }
 
 -- ---- the answer
 
@@ -129,33 +112,26 @@ module _ (l : MarkList) (buffer : List ℕ) where
   unfolding exporting
   export_is o e = ap (λ (f : Option ℕ). fill f (text_of (marks_in l)) buffer) e
 
-  pub turned_away : (n : ℕ) (after : List ℕ) → fault (export_tests l (length buffer)) ≡ some n → after ≡ buffer → Exports (exporting l buffer) (Refused n) after
+  pub turned_away : (e : Refusal) → fault (export_tests l (length buffer)) ≡ some (refusal_number e) → Exports (exporting l buffer) (Err e) buffer
   unfolding fill
-  turned_away n after e k = let f = export_is (some n) e in record { answers = sym (ap (λ (w : Filled). w.answer) f); text_is = k ∙ sym (ap (λ (w : Filled). w.list) f) }
+  turned_away e k =
+      let f = export_is (some (refusal_number e)) k in
+      record { answers = sym (ap (λ (w : Filled). w.answer) f); text_is = sym (ap (λ (w : Filled). w.list) f) }
 
-  pub written : (n : ℕ) (after : List ℕ) → Accepted l (length buffer) → n ≡ length (text_of (marks_in l)) → after ≡ over (text_of (marks_in l)) buffer → Exports (exporting l buffer) (Length n) after
+  -- by `?`
+  pub raised : (e : Refusal) → fault (export_tests l (length buffer)) ≡ some (refusal_number e) → (r : Result ℕ Refusal) → Raised e r → Exports (exporting l buffer) r buffer
+  raised e k (Ok n) h = absurd h.1
+  raised e k (Err d) h = rw h.1 (turned_away e k)
+
+  -- put again, where they fit, they stand at the buffer's front
+  put_again : Accepted l (length buffer) → (r : Result Unit Refusal) (old new : Writer) → old.at ≡ 0 → old.buffer.now ≡ buffer → PutsMarks (marks_in l) old r new → new.buffer.now ≡ over (text_of (marks_in l)) buffer
+  put_again a (Ok u) old new start same p = put-over (rw (start, same) at p.put.put) a.roomy
+  put_again a (Err e) old new start same p = clash a.good p.0
+
+  pub written : Accepted l (length buffer) → (n : ℕ) → n ≡ length (text_of (marks_in l))
+      → (r : Result Unit Refusal) (old new : Writer) → old.at ≡ 0 → old.buffer.now ≡ buffer → PutsMarks (marks_in l) old r new
+      → (after : List ℕ) → after ≡ new.buffer.now → Exports (exporting l buffer) (Ok n) after
   unfolding fill
-  written n after a m k =
+  written a n m r old new start same p after k =
       let f = export_is none (accepts l (length buffer) a) in
-      record { answers = ap success m ∙ sym (ap (λ (w : Filled). w.answer) f); text_is = k ∙ sym (ap (λ (w : Filled). w.list) f) }
-
-  -- where the tests pass it is a success
-  pub export_accepts : Accepted l (length buffer) → (exporting l buffer).answer ≡ success (length (text_of (marks_in l)))
-  unfolding fill
-  export_accepts a = ap (λ (w : Filled). w.answer) (export_is none (accepts l (length buffer) a))
-
-  -- and a success says that they passed, and where the text is
-  module _ (n : ℕ) (e : (exporting l buffer).answer ≡ success n) where
-    parts : (fault (export_tests l (length buffer)) ≡ none) × ((exporting l buffer).list ≡ over (text_of (marks_in l)) buffer) × (n ≡ length (text_of (marks_in l)))
-    unfolding exporting
-    parts = fill-success (text_of (marks_in l)) buffer n (fault (export_tests l (length buffer))) e
-
-    pub export_accepted : Accepted l (length buffer)
-    export_accepted = accepted l (length buffer) parts.0
-
-    pub export_length : n ≡ length (text_of (marks_in l))
-    export_length = parts.2
-
-    pub export_text : take n (exporting l buffer).list ≡ text_of (marks_in l)
-    unfolding over
-    export_text = rw (parts.1, parts.2) (take-append_seam (text_of (marks_in l)) (drop (length (text_of (marks_in l))) buffer))
+      record { answers = ap success m ∙ sym (ap (λ (w : Filled). w.answer) f); text_is = k ∙ put_again a r old new start same p ∙ sym (ap (λ (w : Filled). w.list) f) }

@@ -1,97 +1,79 @@
 -- The walk over the marks: what is known of the first i of them, a turn that finds a bad one, a turn that puts a line, and the end.
 -- Assumes nothing.
 use Prim.Native.Nat.{ℕ, ◌+◌, ◌*◌, ◌^◌, ◌≤◌, ◌<◌}
-use native.Mathlib.Numerals.{add-one}
 use native.Mathlib.Omega.{arith}
-use mathlib.Core.Path.{◌≡◌, refl, sym, ap, ◌∙◌, subst}
+use mathlib.Core.Path.{◌≡◌, refl, sym, ap, ◌∙◌}
 use mathlib.Core.Bool.{false}
-use mathlib.Core.List.{List}
-use lib.IntN.{ℤ, nat_abs}
 use lib.ListN.{length, get_or, take, drop}
-use lib.Seq.{take-suc, take_all}
-use mir.Syntax.{w64}
-use mir.Val.{to_z, of_z}
+use lib.Seq.{take_all}
+use Rattle.std.specs.Prelude.{Option, Some, None, Result, Ok, Err, IsErr, IsErrAnd}
+use Rattle.std.specs.Option.{ok_or}
+use Rattle.std.proofs.lemmas.List.{take_more}
 use Rattle.basics.specs.Lists.{all}
+use Rattle.basics.specs.declared.Refusal.{Refusal}
+use Rattle.basics.specs.declared.Refusal.TheVariants.{NoDecimal}
 use Rattle.basics.proofs.Walks.{all_stop, all-next, all_end}
 use Rattle.records.specs.declared.Record.{Record}
-use Rattle.text.specs.Text.{Put}
-use Rattle.text.proofs.Laws.{put-nothing, put_both, put-length}
-use Rattle.millimetres.specs.Millimetres.{limit}
-use Rattle.millimetres.proofs.Signed.{read_back}
+use Rattle.text.specs.declared.Writer.{Writer}
+use Rattle.text.specs.Writers.{Puts}
+use Rattle.text.proofs.Laws.{puts_nothing, puts_both}
 use Rattle.mark_lists.specs.MarkLists.{MarkList, mark_at, marks_in}
 use Rattle.mark_lists.proofs.Laws.{length-marks, mark_in_lem}
 use Rattle.survey_export.specs.declared.Decimals.{Decimals}
-use Rattle.survey_export.specs.declared.Decimals.TheVariants as decimals
 use Rattle.survey_export.specs.Export.{line_text, good_mark, text_of}
-use Rattle.survey_export.specs.Posts.{Told, Tells, Stands}
-use Rattle.survey_export.proofs.Laws.{within, good, line-is, line-most, longest, text_more}
+use Rattle.survey_export.specs.Posts.{Stands, PutsMarks}
+use Rattle.survey_export.specs.Told.{Told, Tells}
+use Rattle.survey_export.proofs.Laws.{line-is, line-most, longest, text_more}
 
--- ---- what was told of a mark
+-- ---- what was told of a mark, as `?` hands it on
 
-pub told : (m : Record) (r : Decimals) (x y z : ℤ) → Tells m r → r ≡ decimals.Whole x y z → Told m x y z
-told m r x y z t e = subst (Tells m) e t
+pub told-ok : (m : Record) (r : Option Decimals) {d : Decimals} → Tells m r → Ok d ≡ ok_or r NoDecimal → Told m d
+told-ok m (Some c) {d} t e = let same : d ≡ c = cc in rw same t
+told-ok m None {d} t e = absurd (cc)
 
-pub untold : (m : Record) (r : Decimals) → Tells m r → r ≡ decimals.NoDecimal → good_mark m ≡ false
-untold m r t e = subst (Tells m) e t
-
--- its millimetres are within the limit
-abbrev pub Within : ℤ → ℤ → ℤ → Type 0
-Within x y z = (nat_abs x ≤ limit) × (nat_abs y ≤ limit) × (nat_abs z ≤ limit)
-
-pub told-within : (m : Record) (x y z : ℤ) → Told m x y z → Within x y z
-told-within m x y z t =
-    let g = good m t.good in
-    (rw t.x_is (within m.x g.x), rw t.y_is (within m.y g.y), rw t.z_is (within m.z g.z))
-
--- and are read back from the bits that hold them
-pub told_back : (m : Record) (x y z : ℤ) → Told m x y z → Told m (to_z w64 (of_z w64 x)) (to_z w64 (of_z w64 y)) (to_z w64 (of_z w64 z))
-told_back m x y z t =
-    let h = told-within m x y z t in
-    record { good = t.good; x_is = read_back x h.0 ∙ t.x_is; y_is = read_back y h.1 ∙ t.y_is; z_is = read_back z h.2 ∙ t.z_is }
+pub told-err : (m : Record) (r : Option Decimals) {e : Refusal} → Tells m r → Err e ≡ ok_or r NoDecimal → (good_mark m ≡ false) × (e ≡ NoDecimal)
+told-err m (Some c) {e = f} t e = absurd (cc)
+told-err m None {e = f} t e = (t, cc)
 
 -- ---- the walk
 
 -- the first i marks are good, and their text was put
-pub record Sofar (l : MarkList) (entry now : List ℕ) (next i : ℕ) : Type 0 where
-  pub upto : i ≤ l.used
+pub record Sofar (l : MarkList) (old now : Writer) (i : ℕ) : Type 0 where
   pub judged : all good_mark (marks_in l) ≡ all good_mark (drop i (marks_in l))
-  pub put : Put (text_of (take i (marks_in l))) entry 0 now next
-  pub short : next ≤ longest * i
+  pub put : Puts (text_of (take i (marks_in l))) old now
+  pub short : now.at ≤ longest * i
 
-pub sofar_none : (l : MarkList) (entry : List ℕ) → Sofar l entry entry 0 0
+pub sofar_none : (l : MarkList) (w : Writer) → w.at ≡ 0 → Sofar l w w 0
 unfolding text_of
-sofar_none l entry = record { upto = omega arith; judged = refl; put = put-nothing entry 0; short = omega arith }
+sofar_none l w e = record { judged = refl; put = puts_nothing w; short = omega arith }
 
-module _ (l : MarkList) (entry now : List ℕ) (next i : ℕ) (s : Sofar l entry now next i) where
-  module _ (h : i < l.used) (m : Record) (e : m ≡ mark_at l i) where
+module _ {l : MarkList} {old now : Writer} {i : ℕ} (s : Sofar l old now i) where
+  module _ (h : i < l.used) {m : Record} (e : m ≡ mark_at l i) where
     inside : i < length (marks_in l)
     inside = omega (arith, length-marks l)
 
     is_mark : get_or (marks_in l) i m ≡ m
     is_mark = mark_in_lem l i m h ∙ sym e
 
-    pub bad_mark : good_mark m ≡ false → all good_mark (marks_in l) ≡ false
-    bad_mark f = all_stop good_mark (marks_in l) i s.judged m inside (ap good_mark is_mark ∙ f)
+    pub bad_mark : {f : Refusal} → (good_mark m ≡ false) × (f ≡ NoDecimal) → (r : Result Unit Refusal) → IsErr r × IsErrAnd r (λ (d : Refusal). d ≡ f) → PutsMarks (marks_in l) old r now
+    bad_mark b (Ok u) k = absurd k.1
+    bad_mark b (Err d) k = (all_stop good_mark (marks_in l) i s.judged m inside (ap good_mark is_mark ∙ b.0), k.1 ∙ b.1)
 
-    module _ (x y z : ℤ) (t : Told m x y z) (small : (j : ℕ) → get_or l.ids j 0 < 2 ^ 64) where
-      line_short : length (line_text m.id x y z) ≤ longest
-      line_short = rw (line-is m x y z t) (line-most m t.good (omega (arith, ap (λ (k : Record). k.id) e, small i)))
+    module _ {d : Decimals} (t : Told m d) (small : m.id < 2 ^ 64) where
+      line_short : length (line_text m.id d.x d.y d.z) ≤ longest
+      line_short = rw (line-is m d t) (line-most m t.good small)
 
-      pub fits : l.used ≤ 65536 → next + length (line_text m.id x y z) < 2 ^ 64
+      pub fits : l.used ≤ 65536 → now.at + length (line_text m.id d.x d.y d.z) < 2 ^ 64
       fits few = omega (arith, line_short, s.short)
 
-      pub next_mark : {after : List ℕ} {past : ℕ} → Put (line_text m.id x y z) now next after past → Sofar l entry after past (i + 1)
+      pub next_mark : {after : Writer} → Puts (line_text m.id d.x d.y d.z) now after → Sofar l old after (i + 1)
       next_mark p = record {
-        upto = omega arith;
         judged = all-next good_mark (marks_in l) i s.judged m inside (ap good_mark is_mark ∙ t.good);
-        put = rw (add-one, take-suc (marks_in l) i m inside, is_mark, text_more) (put_both s.put (rw (line-is m x y z t) at p));
-        short = omega (arith, line_short, s.short, p.past);
+        put = rw (take_more (marks_in l) i m inside, is_mark, text_more) (puts_both s.put (rw (line-is m d t) at p));
+        short = omega (arith, line_short, s.short, p.put.past);
       }
 
-  pub all-marks : l.used ≤ i → Stands (marks_in l) entry now next
+  pub all-marks : l.used ≤ i → Stands (marks_in l) old now
   all-marks h =
       let whole : length (marks_in l) ≤ i = omega (arith, length-marks l) in
       record { good = all_end good_mark (marks_in l) i s.judged whole; put = rw take_all at s.put }
-
-  pub sofar_length : length now ≡ length entry
-  sofar_length = put-length s.put

@@ -1,16 +1,16 @@
 -- The export of marks into a lent buffer: their text, what turns it away, what it answers, and what it leaves.
 -- Assumes nothing.
-use Rattle.std.specs.Prelude.{ℕ, ◌≡◌, Bool, not, ◌&&◌, List, [], ◌∷◌, ◌++◌, ltb, ℤ, length}
+use Rattle.std.specs.Prelude.{ℕ, ◌≡◌, Bool, not, ◌&&◌, List, [], ◌∷◌, ◌++◌, ltb, ℤ, length, Result}
 use Rattle.basics.specs.Lists.{all}
-use Rattle.basics.specs.Refusals.{Test, refuse, fault, Answer, refused, success}
+use Rattle.basics.specs.Refusals.{Test, refuse, fault, Answer}
+use Rattle.basics.specs.declared.Refusal.{Refusal}
+use Rattle.basics.specs.Answers.{answered}
 use Rattle.basics.specs.Filled.{Filled, fill}
 use Rattle.records.specs.declared.Record.{Record}
 use Rattle.text.specs.Text.{ascii, decimal}
 use Rattle.millimetres.specs.Millimetres.{nearest_to, is_decimal}
 use Rattle.decimals.specs.Decimals.{coordinate_text}
 use Rattle.mark_lists.specs.MarkLists.{MarkList, marks_in, too_many, same_lengths, holds}
-use Rattle.survey_export.specs.declared.Exported.{Exported}
-use Rattle.survey_export.specs.declared.Exported.TheVariants.{Length, Refused}
 
 -- each coordinate of the mark is a decimal's value
 unfoldable pub good_mark : Record → Bool
@@ -52,11 +52,10 @@ unfoldable pub exporting : MarkList → List ℕ → Filled
 unfolding fill fault export_tests text_of marks_in
 exporting l buffer = fill (fault (export_tests l (length buffer))) (text_of (marks_in l)) buffer
 
-abbrev pub exported : Exported → Answer ℕ
-exported (Length n) = success n
-exported (Refused n) = refused n
+abbrev pub exported : Result ℕ Refusal → Answer ℕ
+exported = answered (λ (n : ℕ). n)
 
 -- what is returned, and the buffer at exit, is what the definition gives
-pub record Exports (f : Filled) (r : Exported) (after : List ℕ) : Type 0 where
+pub record Exports (f : Filled) (r : Result ℕ Refusal) (after : List ℕ) : Type 0 where
   pub answers : exported r ≡ f.answer
   pub text_is : after ≡ f.list

@@ -10,18 +10,22 @@ use lib.Dec.{eqb, leb}
 use borrow.Author.Tests.{le-leb, lt-leb, not-false}
 use lib.ListN.{length, length-map}
 use Rattle.basics.specs.Lists.{all}
-use Rattle.basics.specs.Refusals.{Test, refuse, fault, code, success}
+use Rattle.basics.specs.Refusals.{Test, refuse, fault, success}
 use Rattle.basics.proofs.Bools.{by_test, clash}
-use Rattle.basics.proofs.Refusals.{unrefused, fault_stop, fault-right, code-some, code-none}
+use Rattle.basics.proofs.Refusals.{unrefused, fault_stop, fault-right}
 use Rattle.table.specs.Library.{fits}
-use Rattle.records.specs.declared.Record.{Record}
 use Rattle.lines.specs.Lines.{lines}
-use Rattle.mark_lists.specs.MarkLists.{MarkList, mark_list, write_marks, mark_lengths, too_many, same_lengths, holds}
-use Rattle.mark_lists.specs.Posts.{lists_tests, lists_of, Room}
-use Rattle.mark_lists.proofs.Laws.{lists_tests_lem, room, used-written}
+use Rattle.mark_lists.specs.MarkLists.{MarkList, write_marks, too_many, same_lengths, holds}
+use Rattle.mark_lists.specs.Posts.{lists_tests, Room}
+use Rattle.mark_lists.proofs.Laws.{room, used-written}
 use Rattle.survey_import.specs.Marks.{good_line, mark_of, malformed, bad_line}
 use Rattle.survey_import.specs.Import.{import_tests, settle_import, importing, Imports}
-use Rattle.survey_import.specs.declared.Imported.TheVariants.{Marks, Malformed, Refused}
+use Rattle.std.specs.Prelude.{Result, Ok, Err, IsErr, IsErrAnd}
+use Rattle.basics.specs.declared.Refusal.{Refusal}
+use Rattle.basics.specs.declared.Refusal.TheVariants as refusal
+use Rattle.basics.specs.Answers.{refusal_number}
+use Rattle.survey_import.specs.declared.ImportError.{ImportError}
+use Rattle.survey_import.specs.declared.ImportError.TheVariants as error
 
 -- ---- a text that is not malformed
 
@@ -29,14 +33,6 @@ pub lines-good : (ls : List (List ℕ)) → malformed ls ≡ false → all good_
 unfolding malformed
 lines-good [] e = clash refl e
 lines-good (l ∷ ls) e = not-false (all good_line (l ∷ ls)) e
-
--- the lists with marks in use, however many there were before
-in_use : (marks : List Record) (l after : MarkList) → after ≡ lists_of (write_marks marks (lists_of l)) → {count : ℕ} → count ≡ length marks
-    → mark_list after.ids after.xs after.ys after.zs count ≡ write_marks marks l
-unfolding write_marks
-in_use marks l after e {count} k =
-    ap (λ (p : MarkList). mark_list p.ids p.xs p.ys p.zs count) e
-    ∙ ap (λ (n : ℕ). mark_list (write_marks marks l).ids (write_marks marks l).xs (write_marks marks l).ys (write_marks marks l).zs n) k
 
 -- ---- the lists' tests come first
 
@@ -63,16 +59,17 @@ module _ (l : MarkList) (text : List ℕ) where
       (λ d. let z : ◌≡◌ {A = ℕ} 0 1 = cc (rw (e, d) at f) in absurd (omega arith)))
 
   -- 24 or 13
-  pub refused-lists : {n : ℕ} → n ≡ code (fault (lists_tests (mark_lengths l))) → (n ≡ 0 → ⊥) → Imports (importing l text) (Refused n) l
-  unfolding importing settle_import
-  refused-lists {n} e h =
-      let f : fault list_tests ≡ some n = code-some (fault list_tests) n (e ∙ ap (λ (ts : List Test). code (fault ts)) (lists_tests_lem l)) h in
-      let g : fault (import_tests l (lines text)) ≡ some n = ap fault tests_are ∙ fault_stop list_tests line_tests n f in
-      rw (g, other-number f) (record { answers = refl; line-is = refl; lists-are = refl })
+  pub refused-lists : (e : Refusal) → some (refusal_number e) ≡ fault (lists_tests l) → (r : Result ℕ ImportError) → IsErr r × IsErrAnd r (λ (d : ImportError). d ≡ error.Refused e) → Imports (importing l text) r l
+  unfolding importing settle_import lists_tests
+  refused-lists e f (Ok n) h = absurd h.1
+  refused-lists e f (Err d) h =
+      let g : fault (import_tests l (lines text)) ≡ some (refusal_number e) = ap fault tests_are ∙ fault_stop list_tests line_tests (refusal_number e) (sym f) in
+      rw (h.1, g, other-number (sym f)) (record { answers = refl; line-is = refl; lists-are = refl })
 
-  module _ {n : ℕ} (c : n ≡ code (fault (lists_tests (mark_lengths l)))) (z : n ≡ 0) where
+  module _ (f : none ≡ fault (lists_tests l)) where
     passes : fault list_tests ≡ none
-    passes = code-none list_tests ((λ q. omega (arith, q)), ((λ q. omega (arith, q)), tt)) (sym z ∙ c ∙ ap (λ (ts : List Test). code (fault ts)) (lists_tests_lem l))
+    unfolding lists_tests
+    passes = sym f
 
     pub even_lists : same_lengths l ≡ true
     even_lists = not-false (same_lengths l) (unrefused list_tests passes).1.0
@@ -81,15 +78,17 @@ module _ (l : MarkList) (text : List ℕ) where
     rest_tests = ap fault tests_are ∙ fault-right list_tests line_tests passes
 
     -- 27
-    pub refused-line : {line : ℕ} → malformed (lines text) ≡ true → line ≡ bad_line (lines text) → Imports (importing l text) (Malformed line) l
+    pub refused-line : {e : ImportError} → (malformed (lines text) ≡ true) × (e ≡ error.Malformed (bad_line (lines text)))
+        → (r : Result ℕ ImportError) → IsErr r × IsErrAnd r (λ (d : ImportError). d ≡ e) → Imports (importing l text) r l
     unfolding importing settle_import fault
-    refused-line {line} m e =
-        let g : fault (import_tests l (lines text)) ≡ some 27 = rest_tests ∙ rw m in
-        rw g (record { answers = refl; line-is = ap some e; lists-are = refl })
+    refused-line {e} j (Ok n) h = absurd h.1
+    refused-line {e} j (Err d) h =
+        let g : fault (import_tests l (lines text)) ≡ some 27 = rest_tests ∙ rw j.0 in
+        rw (h.1, j.1, g) (record { answers = refl; line-is = refl; lists-are = refl })
 
     module _ {count : ℕ} (m : malformed (lines text) ≡ false) (k : count ≡ length (lines text)) where
       -- 12
-      pub refused-room : length l.ids < count → Imports (importing l text) (Refused 12) l
+      pub refused-room : length l.ids < count → Imports (importing l text) (Err (error.Refused refusal.Full)) l
       unfolding importing settle_import fault holds fits
       refused-room h =
           let r : leb (length (lines text)) (length l.ids) ≡ false = lt-leb (length (lines text)) (length l.ids) (omega (arith, k)) in
@@ -105,10 +104,9 @@ module _ (l : MarkList) (text : List ℕ) where
         store_room = room l (length (lines text)) even_lists has_room
 
         -- the marks, of which count are then in use
-        pub stored_all : (after : MarkList) → after ≡ lists_of (write_marks (map mark_of (lines text)) (lists_of l))
-            → Imports (importing l text) (Marks count) (mark_list after.ids after.xs after.ys after.zs count)
+        pub stored_all : (after : MarkList) → after ≡ write_marks (map mark_of (lines text)) l → Imports (importing l text) (Ok count) after
         unfolding importing settle_import fault
         stored_all after e =
             let g : fault (import_tests l (lines text)) ≡ none = rest_tests ∙ rw (m, has_room) in
             let n : count ≡ length (map mark_of (lines text)) = k ∙ sym (length-map (lines text) mark_of) in
-            rw g (record { answers = ap success (n ∙ sym (used-written (map mark_of (lines text)) l)); line-is = refl; lists-are = in_use (map mark_of (lines text)) l after e n })
+            rw g (record { answers = ap success (n ∙ sym (used-written (map mark_of (lines text)) l)); line-is = refl; lists-are = e })

@@ -1,4 +1,4 @@
--- A walk along the lines of a text: where the next line starts, and how many were passed.
+-- A walk along the lines of a text: how many were passed, and which are left.
 -- Assumes nothing.
 use Prim.Native.Nat.{ℕ, suc, ◌+◌, ◌≤◌, ◌<◌}
 use native.Mathlib.Numerals.{add-one}
@@ -6,62 +6,48 @@ use native.Mathlib.Omega.{arith}
 use mathlib.Core.Path.{◌≡◌, refl, sym, ap, ◌∙◌}
 use mathlib.Core.Bool.{true, false, not}
 use mathlib.Core.List.{List, [], ◌∷◌}
-use lib.ListN.{length, get_or, drop, length-drop, drop_of_length-le}
+use lib.ListN.{length, get_or, drop, length-drop}
 use lib.Seq.{drop-cons}
+use Rattle.std.specs.Prelude.{Ok, Err}
 use Rattle.basics.specs.Lists.{all}
 use Rattle.basics.proofs.Walks.{all_stop, all-next, all_end}
-use Rattle.lines.specs.declared.Line.{Line}
 use Rattle.lines.specs.Lines.{lines}
-use Rattle.lines.specs.Posts.{IsLine}
-use Rattle.lines.proofs.Lines.{lines_none}
+use Rattle.lines.proofs.LineLaws.{lines-most}
 use Rattle.survey_import.specs.Marks.{good_line, malformed, bad_line}
-use Rattle.survey_import.specs.Posts.{between, Judges}
-use Rattle.survey_import.specs.declared.Judged.TheVariants as judged
+use Rattle.survey_import.specs.Posts.{Judges}
+use Rattle.survey_import.specs.declared.ImportError.TheVariants.{Malformed}
 
--- i lines stand before the index, and the others are those of what follows it
-pub record Walking (text : List ℕ) (at i : ℕ) : Type 0 where
-  pub inside : at ≤ length text
-  pub passed : i ≤ at
+pub record Walking (text : List ℕ) (left : List (List ℕ)) (i : ℕ) : Type 0 where
   pub counted : i ≤ length (lines text)
-  pub ahead : lines (drop at text) ≡ drop i (lines text)
+  pub ahead : left ≡ drop i (lines text)
 
-pub walk_start : (text : List ℕ) → Walking text 0 0
-walk_start text = record { inside = omega arith; passed = omega arith; counted = omega arith; ahead = refl }
+pub walk_start : (text : List ℕ) → Walking text (lines text) 0
+walk_start text = record { counted = omega arith; ahead = refl }
 
-module _ {text : List ℕ} {at i : ℕ} (w : Walking text at i) where
-  module _ {r : Line} (is : IsLine text at r) where
-    both : drop i (lines text) ≡ between text at r.end ∷ lines (drop r.next text)
-    both = sym w.ahead ∙ is.first
-
+module _ {text : List ℕ} {left : List (List ℕ)} {i : ℕ} (w : Walking text left i) where
+  module _ {line : List ℕ} {rest : List (List ℕ)} (is : left ≡ line ∷ rest) where
     pub line_there : i < length (lines text)
-    line_there = omega (arith, w.counted, length-drop i (lines text), ap length both)
+    line_there = omega (arith, w.counted, length-drop i (lines text), ap length (sym w.ahead ∙ is))
 
-    parts : get_or (lines text) i [] ∷ drop (suc i) (lines text) ≡ between text at r.end ∷ lines (drop r.next text)
-    parts = sym (drop-cons (lines text) i [] line_there) ∙ both
+    parts : get_or (lines text) i [] ∷ drop (suc i) (lines text) ≡ line ∷ rest
+    parts = sym (drop-cons (lines text) i [] line_there) ∙ sym w.ahead ∙ is
 
     -- the line that is read is the i-th
-    pub line-is : get_or (lines text) i [] ≡ between text at r.end
+    pub line-is : get_or (lines text) i [] ≡ line
     line-is = cc parts
 
-    pub walk-next : Walking text r.next (i + 1)
-    walk-next = record {
-      inside = is.within;
-      passed = omega (arith, w.passed, is.onward);
-      counted = omega (arith, line_there);
-      ahead = rw add-one (cc parts);
-    }
+    pub walk-next : Walking text rest (i + 1)
+    walk-next = record { counted = omega (arith, line_there); ahead = rw add-one (cc parts) }
 
-  -- at the end of the text every line was passed
-  pub walk_end : length text ≤ at → i ≡ length (lines text)
-  walk_end h =
-      let e : drop i (lines text) ≡ [] = sym w.ahead ∙ ap lines (drop_of_length-le text {i = at} h) ∙ lines_none in
-      omega (arith, w.counted, length-drop i (lines text), ap length e)
+  -- every line was passed
+  pub walk_end : left ≡ [] → i ≡ length (lines text)
+  walk_end e = omega (arith, w.counted, length-drop i (lines text), ap length (sym w.ahead ∙ e))
 
 -- ---- the judgement
 
 -- the lines passed are good, and so the first bad line is ahead
-pub record Judging (text : List ℕ) (at i : ℕ) : Type 0 where
-  pub walk : Walking text at i
+pub record Judging (text : List ℕ) (left : List (List ℕ)) (i : ℕ) : Type 0 where
+  pub walk : Walking text left i
   pub good : all good_line (lines text) ≡ all good_line (drop i (lines text))
   pub bad : bad_line (lines text) ≡ i + bad_line (drop i (lines text))
 
@@ -83,18 +69,19 @@ unfolding malformed bad_line
 malformed-none [] h = (refl, refl)
 malformed-none (l ∷ ls) h = absurd (omega arith)
 
-pub judging_start : (text : List ℕ) → Judging text 0 0
+pub judging_start : (text : List ℕ) → Judging text (lines text) 0
 judging_start text = record { walk = walk_start text; good = refl; bad = omega arith }
 
-module _ {text : List ℕ} {at i : ℕ} (j : Judging text at i) where
-  module _ {r : Line} (is : IsLine text at r) where
-    abbrev here : List ℕ
-    here = between text at r.end
-
+module _ {text : List ℕ} {left : List (List ℕ)} {i : ℕ} (j : Judging text left i) where
+  module _ {line : List ℕ} {rest : List (List ℕ)} (is : left ≡ line ∷ rest) where
     there : i < length (lines text)
     there = line_there j.walk is
 
-    pub good-line : good_line here ≡ true → Judging text r.next (i + 1)
+    -- a text has no more lines than bytes
+    pub count-below : i < length text
+    count-below = omega (arith, there, lines-most text)
+
+    pub good-line : good_line line ≡ true → Judging text rest (i + 1)
     good-line e =
         let g : good_line (get_or (lines text) i []) ≡ true = ap good_line (line-is j.walk is) ∙ e in
         record {
@@ -103,17 +90,18 @@ module _ {text : List ℕ} {at i : ℕ} (j : Judging text at i) where
           bad = omega (arith, j.bad, bad-next (lines text) i there g);
         }
 
-    pub bad-line : good_line here ≡ false → Judges (lines text) (judged.Malformed (i + 1))
+    pub bad-line : good_line line ≡ false → Judges (lines text) (Err (Malformed (i + 1)))
     bad-line e =
-        let g : good_line (get_or (lines text) i []) ≡ false = ap good_line (line-is j.walk is) ∙ e in (
+        let g : good_line (get_or (lines text) i []) ≡ false = ap good_line (line-is j.walk is) ∙ e in
+        let n : i + 1 ≡ bad_line (lines text) = omega (arith, j.bad, bad_here (lines text) i there g) in (
           (malformed-some (lines text) (omega (arith, there)) ∙ ap not (all_stop good_line (lines text) i j.good [] there g)),
-          omega (arith, j.bad, bad_here (lines text) i there g),
+          ap (λ (k : ℕ). Malformed k) n,
         )
 
-  pub no_line : length text ≤ at → i ≡ 0 → Judges (lines text) (judged.Malformed 1)
-  no_line h e = malformed-none (lines text) (sym (walk_end j.walk h) ∙ e)
+  pub no_line : left ≡ [] → i ≡ 0 → Judges (lines text) (Err (Malformed 1))
+  no_line h e = let m = malformed-none (lines text) (sym (walk_end j.walk h) ∙ e) in (m.0, ap (λ (k : ℕ). Malformed k) m.1)
 
-  pub all-good : length text ≤ at → (i ≡ 0 → ⊥) → Judges (lines text) (judged.Lines i)
+  pub all-good : left ≡ [] → (i ≡ 0 → ⊥) → Judges (lines text) (Ok i)
   all-good h e =
       let n = walk_end j.walk h in
       ((malformed-some (lines text) (omega (arith, n, e)) ∙ ap not (all_end good_line (lines text) i j.good (omega (arith, n)))), n)

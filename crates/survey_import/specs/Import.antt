@@ -1,13 +1,14 @@
 -- The import of a surveyor's text into lent lists: what turns it away, what it answers, and what it leaves.
 -- Assumes nothing.
-use Rattle.std.specs.Prelude.{ℕ, ◌≡◌, not, cond, List, [], ◌∷◌, map, eqb, length}
+use Rattle.std.specs.Prelude.{ℕ, ◌≡◌, not, cond, List, [], ◌∷◌, map, eqb, length, Result, Ok, Err}
 use Rattle.std.proofs.Math.Option.{Option, none, some}
 use Rattle.basics.specs.Refusals.{Test, refuse, fault, Answer, refused, success}
 use Rattle.mark_lists.specs.MarkLists.{MarkList, write_marks, too_many, same_lengths, holds}
 use Rattle.lines.specs.Lines.{lines}
 use Rattle.survey_import.specs.Marks.{mark_of, malformed, bad_line}
-use Rattle.survey_import.specs.declared.Imported.{Imported}
-use Rattle.survey_import.specs.declared.Imported.TheVariants.{Marks, Malformed, Refused}
+use Rattle.basics.specs.Answers.{refusal_number}
+use Rattle.survey_import.specs.declared.ImportError.{ImportError}
+use Rattle.survey_import.specs.declared.ImportError.TheVariants as error
 
 -- of the lines that are found in a text: 24, 13 (slice lengths), 27, 12: every line is judged before 12
 unfoldable pub import_tests : MarkList → List (List ℕ) → List Test
@@ -38,25 +39,20 @@ unfoldable pub importing : MarkList → List ℕ → Import
 unfolding import_lines lines
 importing l text = import_lines l (lines text)
 
--- ---- the answer's number or its count, its line, and the marks in use after it
+-- ---- the answer's number or its count, and its line
 
-abbrev pub imported : Imported → Answer ℕ
-imported (Marks n) = success n
-imported (Malformed line) = refused 27
-imported (Refused n) = refused n
+abbrev pub imported : Result ℕ ImportError → Answer ℕ
+imported (Ok n) = success n
+imported (Err (error.Malformed line)) = refused 27
+imported (Err (error.Refused refusal)) = refused (refusal_number refusal)
 
-abbrev pub imported_line : Imported → Option ℕ
-imported_line (Marks n) = none
-imported_line (Malformed line) = some line
-imported_line (Refused n) = none
-
-abbrev pub used_after : Imported → ℕ → ℕ
-used_after (Marks n) used = n
-used_after (Malformed line) used = used
-used_after (Refused n) used = used
+abbrev pub imported_line : Result ℕ ImportError → Option ℕ
+imported_line (Ok n) = none
+imported_line (Err (error.Malformed line)) = some line
+imported_line (Err (error.Refused refusal)) = none
 
 -- what is returned, and the lists at exit, is what the definition gives
-pub record Imports (i : Import) (r : Imported) (after : MarkList) : Type 0 where
+pub record Imports (i : Import) (r : Result ℕ ImportError) (after : MarkList) : Type 0 where
   pub answers : imported r ≡ i.answer
   pub line-is : imported_line r ≡ i.line
   pub lists-are : after ≡ i.lists

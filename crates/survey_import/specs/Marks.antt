@@ -1,6 +1,7 @@
 -- The text of surveyors: a mark in each line, as number, easting, northing, height, description.
 -- Assumes nothing.
 use Rattle.std.specs.Prelude.{ℕ, suc, Bool, true, not, cond, ◌&&◌, List, [], ◌∷◌, leb, eqb, length, get_or}
+use Rattle.std.specs.Prelude as prelude
 use Rattle.std.proofs.Math.Option.{Option, none, some}
 use Rattle.basics.specs.Lists.{all}
 use Rattle.records.specs.declared.Record.{Record}
@@ -8,8 +9,6 @@ use Rattle.text.specs.Text.{number_of}
 use Rattle.lines.specs.Pieces.{split}
 use Rattle.millimetres.specs.Millimetres.{value_of}
 use Rattle.decimals.specs.Decimals.{is_number, is_coordinate, millimetres}
-use Rattle.survey_import.specs.declared.ReadLine.{ReadLine}
-use Rattle.survey_import.specs.declared.ReadLine.TheVariants as read
 
 -- a byte from 32 to 126, and no comma
 abbrev pub plain : ℕ → Bool
@@ -51,9 +50,9 @@ unfoldable pub mark_in : List ℕ → Option Record
 unfolding good_line mark_of
 mark_in line = cond (good_line line) (some (mark_of line)) none
 
-abbrev pub line_read : ReadLine → Option Record
-line_read (read.Mark mark) = some mark
-line_read read.Malformed = none
+abbrev pub line_read : prelude.Option Record → Option Record
+line_read (prelude.Some mark) = some mark
+line_read prelude.None = none
 
 -- ---- a list of lines
 

@@ -8,18 +8,18 @@ use mathlib.Core.Option.{Option, none, some}
 use mathlib.Core.List.{List, [], ◌∷◌, map}
 use lib.ListN.{length, take, length-map}
 use lib.Ieee.{Float, nan}
-use borrow.Author.Tests.{leb-true, not-false}
+use borrow.Author.Tests.{not-false}
 use Rattle.basics.specs.Lists.{tab}
 use Rattle.basics.proofs.Lists.{map-tab, tab-take}
 use Rattle.basics.specs.Refusals.{Answer, refused, success, fault}
 use Rattle.basics.proofs.Refusals.{unrefused}
-use Rattle.grid_search.specs.declared.GivenU64.TheVariants as number
-use Rattle.grid_search.specs.declared.GivenF64.TheVariants as float
 use Rattle.grid_search.specs.declared.GridSearch.{GridSearch}
 use Rattle.grid_search.specs.Sheet.{new_sheet, sheet_ok}
 use Rattle.grid_search.proofs.Remade.{made-good}
-use Rattle.rows.specs.declared.Inserted.{Inserted}
-use Rattle.table.specs.Library.{Library, fits}
+use Rattle.std.specs.Prelude.{Result, Ok, Err, None}
+use Rattle.basics.specs.declared.Refusal.{Refusal}
+use Rattle.basics.specs.Answers.{refusal_number}
+use Rattle.table.specs.Library.{Library}
 use Rattle.rows.specs.Turn.{Gives}
 use Rattle.rows.specs.Insert.{inserted}
 use Rattle.records.specs.declared.Record.{Record}
@@ -27,12 +27,14 @@ use Rattle.loading.specs.Loading.{insert_one, insert_all, Inserts}
 use Rattle.text.specs.Text.{refusal}
 use Rattle.outcome.specs.Outcome.{empty_library, outcome_text}
 use Rattle.outcome.proofs.Reading.{of_turn, marks-sound}
-use Rattle.mark_lists.specs.MarkLists.{MarkList, mark_list, mark_at, marks_in, write_marks, holds}
+use Rattle.mark_lists.specs.MarkLists.{MarkList, mark_at, marks_in, write_marks, same_lengths, holds}
+use Rattle.mark_lists.specs.Posts.{Room}
+use Rattle.mark_lists.proofs.Laws.{room, used-written, lengths-written}
+use Rattle.table.specs.Posts.{Long}
 use Rattle.lines.specs.Lines.{lines}
-use Rattle.survey_import.specs.declared.Imported.{Imported}
-use Rattle.survey_import.specs.declared.Imported.TheVariants.{Marks, Malformed, Refused}
+use Rattle.survey_import.specs.declared.ImportError.TheVariants.{Malformed, Refused}
 use Rattle.survey_import.specs.Marks.{mark_of, bad_line}
-use Rattle.survey_import.specs.Import.{Import, Imports, used_after, importing, import_lines, import_tests, settle_import}
+use Rattle.survey_import.specs.Import.{Import, Imports, importing, import_lines, import_tests, settle_import}
 use Rattle.surveyed.specs.Surveyed.{empty_marks, lowest_of, highest_of, sheet_over, sheet_of_marks, on_sheet, of_marks, refused_at, after_import, of_text}
 
 -- ---- the sheet
@@ -55,7 +57,7 @@ module _ (l : MarkList) where
 
 -- from extremes that were found
 pub of_extremes : (xs ys zs : List Float) {a b c d e f : Float} → a ≡ lowest_of xs → b ≡ lowest_of ys → c ≡ lowest_of zs → d ≡ highest_of xs → e ≡ highest_of ys → f ≡ highest_of zs
-    → new_sheet (a ∷ b ∷ c ∷ []) (d ∷ e ∷ f ∷ []) number.LeftOut float.LeftOut float.LeftOut ≡ sheet_over xs ys zs
+    → new_sheet (a ∷ b ∷ c ∷ []) (d ∷ e ∷ f ∷ []) None None None ≡ sheet_over xs ys zs
 unfolding sheet_over
 of_extremes xs ys zs p q r u v w = rw (p, q, r, u, v, w)
 
@@ -66,7 +68,7 @@ sheet-good marks s e =
     let xs = map (λ (m : Record). m.x) marks in
     let ys = map (λ (m : Record). m.y) marks in
     let zs = map (λ (m : Record). m.z) marks in
-    made-good (lowest_of xs ∷ lowest_of ys ∷ lowest_of zs ∷ []) (highest_of xs ∷ highest_of ys ∷ highest_of zs ∷ []) number.LeftOut float.LeftOut float.LeftOut s e
+    made-good (lowest_of xs ∷ lowest_of ys ∷ lowest_of zs ∷ []) (highest_of xs ∷ highest_of ys ∷ highest_of zs ∷ []) None None None s e
 
 -- ---- the marks
 
@@ -77,10 +79,10 @@ of_mark e s l {a} {after} t = subst (λ (r : Record). Gives (insert_one s l r) a
 -- ---- the text
 
 -- of the outcome of the marks on a good sheet
-pub on-sheet : (s : GridSearch) → sheet_ok s ≡ true → (marks : List Record) (lists : ℕ → Library) (r : Inserted) → Inserts (insert_all (insert_one s) empty_library marks) r lists
-    → outcome_text s lists (inserted r) ≡ on_sheet (success s) marks
+pub on-sheet : (s : GridSearch) → sheet_ok s ≡ true → (marks : List Record) (l : Library) (r : Result ℕ Refusal) → Inserts (insert_all (insert_one s) empty_library marks) r l
+    → outcome_text s l (inserted r) ≡ on_sheet (success s) marks
 unfolding on_sheet
-on-sheet s good marks lists r g = of_turn s (insert_all (insert_one s) empty_library marks) (marks-sound s good marks) lists r g
+on-sheet s good marks l r g = of_turn s (insert_all (insert_one s) empty_library marks) (marks-sound s good marks) l r g
 
 pub of_sheet_lem : (a : Answer GridSearch) (marks : List Record) → a ≡ sheet_of_marks marks → on_sheet a marks ≡ of_marks marks
 unfolding of_marks
@@ -95,47 +97,48 @@ no_sheet n marks e = ap (λ (o : Answer GridSearch). on_sheet o marks) e
 abbrev after : Import → List ℕ
 after i = after_import i.lists i.answer i.line
 
-of_marks_lem : (i : Import) (n : ℕ) (l : MarkList) → Imports i (Marks n) l → of_marks (marks_in l) ≡ after i
+of_marks_lem : (i : Import) (n : ℕ) (l : MarkList) → Imports i (Ok n) l → of_marks (marks_in l) ≡ after i
 unfolding after_import
 of_marks_lem i n l g = ap (λ (p : MarkList). of_marks (marks_in p)) g.lists-are ∙ ap (λ (a : Answer ℕ). after_import i.lists a i.line) g.answers
 
-of_line : (i : Import) (line : ℕ) (l : MarkList) → Imports i (Malformed line) l → refusal (27 ∷ line ∷ []) ≡ after i
+of_line : (i : Import) (line : ℕ) (l : MarkList) → Imports i (Err (Malformed line)) l → refusal (27 ∷ line ∷ []) ≡ after i
 unfolding after_import refused_at
 of_line i line l g = ap (refused_at 27) g.line-is ∙ ap (λ (a : Answer ℕ). after_import i.lists a i.line) g.answers
 
-of_refusal : (i : Import) (n : ℕ) (l : MarkList) → Imports i (Refused n) l → refusal (n ∷ []) ≡ after i
+of_refusal : (i : Import) (e : Refusal) (l : MarkList) → Imports i (Err (Refused e)) l → refusal (refusal_number e ∷ []) ≡ after i
 unfolding after_import refused_at
-of_refusal i n l g = ap (refused_at n) g.line-is ∙ ap (λ (a : Answer ℕ). after_import i.lists a i.line) g.answers
+of_refusal i e l g = ap (refused_at (refusal_number e)) g.line-is ∙ ap (λ (a : Answer ℕ). after_import i.lists a i.line) g.answers
 
--- marks that were taken had room
-took : (l : MarkList) (bytes : List ℕ) (n : ℕ) → (importing l bytes).answer ≡ success n → n ≤ length l.ids
-unfolding importing import_lines settle_import import_tests write_marks holds fits
+-- marks that were taken have room
+took : (l : MarkList) (bytes : List ℕ) (n : ℕ) → (importing l bytes).answer ≡ success n → Room (importing l bytes).lists (importing l bytes).lists.used
+unfolding importing import_lines settle_import import_tests
 took l bytes n e = go (fault (import_tests l (lines bytes))) refl e
   where
-    go : (o : Option ℕ) → fault (import_tests l (lines bytes)) ≡ o → (settle_import o (bad_line (lines bytes)) (write_marks (map mark_of (lines bytes)) l) l).answer ≡ success n → n ≤ length l.ids
+    go : (o : Option ℕ) → fault (import_tests l (lines bytes)) ≡ o → (settle_import o (bad_line (lines bytes)) (write_marks (map mark_of (lines bytes)) l) l).answer ≡ success n
+        → let i = settle_import o (bad_line (lines bytes)) (write_marks (map mark_of (lines bytes)) l) l in Room i.lists i.lists.used
     go (some k) f q = absurd (let z : ◌≡◌ {A = ℕ} 0 1 = cc in omega arith)
     go none f q =
-        let many : length (map mark_of (lines bytes)) ≡ n = cc in
-        let room : holds l (length (lines bytes)) ≡ true = not-false (holds l (length (lines bytes))) (unrefused (import_tests l (lines bytes)) f).1.1.1.0 in
-        omega (arith, leb-true (length (lines bytes)) (length l.ids) room, length-map (lines bytes) mark_of)
+        let marks = map mark_of (lines bytes) in
+        let tests = unrefused (import_tests l (lines bytes)) f in
+        let level : same_lengths l ≡ true = not-false (same_lengths l) tests.1.0 in
+        let fit : holds l (length (lines bytes)) ≡ true = not-false (holds l (length (lines bytes))) tests.1.1.1.0 in
+        let many : length marks ≡ length (lines bytes) = length-map (lines bytes) mark_of in
+        let lent_room : Room l (length marks) = rw many (room l (length (lines bytes)) level fit) in
+        rw used-written (subst (λ (ns : List ℕ). Long ns (length marks)) (sym (lengths-written marks l lent_room)) lent_room)
 
 -- into the empty lists, with this answer
-module _ (bytes ids : List ℕ) (xs ys zs : List Float) (r : Imported) (g : Imports (importing empty_marks bytes) r (mark_list ids xs ys zs (used_after r 0))) where
-  told : (q : Imported) → r ≡ q → Imports (importing empty_marks bytes) q (mark_list ids xs ys zs (used_after q 0))
-  told q e = subst (λ (o : Imported). Imports (importing empty_marks bytes) o (mark_list ids xs ys zs (used_after o 0))) e g
+module _ (bytes : List ℕ) (l : MarkList) where
+  pub few : (n : ℕ) → Imports (importing empty_marks bytes) (Ok n) l → Room l l.used
+  few n g = subst (λ (p : MarkList). Room p p.used) (sym g.lists-are) (took empty_marks bytes n (sym g.answers))
 
-  pub few : (n : ℕ) → r ≡ Marks n → n ≤ 1024
-  unfolding empty_marks
-  few n e = took empty_marks bytes n (sym (told (Marks n) e).answers)
-
-  pub marks_text : (n : ℕ) → r ≡ Marks n → of_marks (marks_in (mark_list ids xs ys zs n)) ≡ of_text bytes
+  pub marks_text : (n : ℕ) → Imports (importing empty_marks bytes) (Ok n) l → of_marks (marks_in l) ≡ of_text bytes
   unfolding of_text
-  marks_text n e = of_marks_lem (importing empty_marks bytes) n (mark_list ids xs ys zs n) (told (Marks n) e)
+  marks_text n g = of_marks_lem (importing empty_marks bytes) n l g
 
-  pub line_text_lem : (line : ℕ) → r ≡ Malformed line → refusal (27 ∷ line ∷ []) ≡ of_text bytes
+  pub line_text_lem : (line : ℕ) → Imports (importing empty_marks bytes) (Err (Malformed line)) l → refusal (27 ∷ line ∷ []) ≡ of_text bytes
   unfolding of_text
-  line_text_lem line e = of_line (importing empty_marks bytes) line (mark_list ids xs ys zs 0) (told (Malformed line) e)
+  line_text_lem line g = of_line (importing empty_marks bytes) line l g
 
-  pub refusal_text : (n : ℕ) → r ≡ Refused n → refusal (n ∷ []) ≡ of_text bytes
+  pub refusal_text : (e : Refusal) → Imports (importing empty_marks bytes) (Err (Refused e)) l → refusal (refusal_number e ∷ []) ≡ of_text bytes
   unfolding of_text
-  refusal_text n e = of_refusal (importing empty_marks bytes) n (mark_list ids xs ys zs 0) (told (Refused n) e)
+  refusal_text e g = of_refusal (importing empty_marks bytes) e l g

@@ -1,2 +1,3 @@
 -- What the program `survey` prints, by what standard input holds.
 pub mod Surveyed
+pub mod Posts

@@ -1,13 +1,11 @@
 -- What the program `survey` prints, by what standard input holds.
 -- Assumes nothing.
-use Rattle.std.specs.Prelude.{ℕ, cond, List, [], ◌∷◌, map, ltb, length, replicate, Float}
+use Rattle.std.specs.Prelude.{ℕ, cond, List, [], ◌∷◌, map, ltb, length, replicate, Float, None}
 use Rattle.std.proofs.Math.Option.{Option, none, some}
 use Rattle.basics.specs.Lists.{fold_all}
 use Rattle.basics.specs.Refusals.{Answer, refused, success}
 use Rattle.floats.specs.Rounded.{zero_f}
 use Rattle.floats.specs.Tests.{min_of, max_of}
-use Rattle.grid_search.specs.declared.GivenU64.TheVariants as number
-use Rattle.grid_search.specs.declared.GivenF64.TheVariants as float
 use Rattle.grid_search.specs.declared.GridSearch.{GridSearch}
 use Rattle.grid_search.specs.Sheet.{new_sheet}
 use Rattle.text.specs.Text.{refusal}
@@ -38,7 +36,7 @@ highest_of values = fold_all max_of zero_f values
 unfoldable pub sheet_over : List Float → List Float → List Float → Answer GridSearch
 unfolding new_sheet lowest_of highest_of
 sheet_over xs ys zs =
-    new_sheet (lowest_of xs ∷ lowest_of ys ∷ lowest_of zs ∷ []) (highest_of xs ∷ highest_of ys ∷ highest_of zs ∷ []) number.LeftOut float.LeftOut float.LeftOut
+    new_sheet (lowest_of xs ∷ lowest_of ys ∷ lowest_of zs ∷ []) (highest_of xs ∷ highest_of ys ∷ highest_of zs ∷ []) None None None
 
 unfoldable pub sheet_of_marks : List Record → Answer GridSearch
 unfolding sheet_over

@@ -31,7 +31,8 @@ unfolding put_in
 all_append id at [] ls rows = refl
 all_append id at (k ∷ ks) ls rows = all_append id at ks ls (put_row (row_in id at k) rows)
 
-pub all-next : (id : ℕ) (at : Position) (ks : List ℕ) (i : ℕ) (rows : List Row) → i < length ks → put_in id at (take (i + 1) ks) rows ≡ put_row (row_in id at (get_or ks i 0)) (put_in id at (take i ks) rows)
+pub all-next : (id : ℕ) (at : Position) (ks : List ℕ) (i : ℕ) (rows : List Row) → i < length ks
+    → put_in id at (take (i + 1) ks) rows ≡ put_row (row_in id at (get_or ks i 0)) (put_in id at (take i ks) rows)
 unfolding put_in
 all-next id at ks i rows h = rw (add-one, take-suc ks i 0 h) (all_append id at (take i ks) (get_or ks i 0 ∷ []) rows)
 

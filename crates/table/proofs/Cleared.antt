@@ -1,48 +1,34 @@
 -- Zeros from an index on, for any kind of entry.
 -- Assumes nothing.
-use Prim.Native.Nat.{ℕ, zero, suc, ◌+◌, ◌≤◌, ◌<◌}
+use Prim.Native.Nat.{ℕ, zero, suc, ◌-◌, ◌≤◌}
 use native.Mathlib.Nat.{le_of_suc-le-suc, not-suc-le-zero}
-use native.Mathlib.Numerals.{add-one}
 use native.Mathlib.Omega.{arith}
-use mathlib.Core.Path.{◌≡◌, refl, sym, ap, ◌∙◌}
-use mathlib.Core.List.{List, [], ◌∷◌, map}
-use lib.ListN.{length, take, set, length-set}
+use mathlib.Core.Path.{◌≡◌, refl, ap}
+use mathlib.Core.List.{List, [], ◌∷◌, ◌++◌, map, append-nil}
+use borrow.Rule.Slice.PartMut.{put_mid}
+use Rattle.std.proofs.lemmas.List.{take_rest}
+use lib.ListN.{length, take, drop, replicate, length-drop, drop_of_length-le}
 use Rattle.basics.specs.Lists.{over}
 use Rattle.table.specs.Posts.{cleared}
 
 module _ {A : Type 0} (v : A) where
-  cleared-set : (s : List A) (i : ℕ) → i < length s → cleared v (suc i) (set s i v) ≡ cleared v i s
+  cleared-front : (s : List A) → replicate (length s) v ≡ cleared v 0 s
   unfolding cleared
-  cleared-set [] i h = absurd (not-suc-le-zero h)
-  cleared-set (x ∷ s) zero h = refl
-  cleared-set (x ∷ s) (suc i) h = ap (λ (r : List A). x ∷ r) (cleared-set s i (le_of_suc-le-suc h))
+  cleared-front [] = refl
+  cleared-front (x ∷ s) = ap (λ (r : List A). v ∷ r) (cleared-front s)
 
-  cleared-next : (s : List A) (i : ℕ) → i < length s → cleared v (i + 1) (set s i v) ≡ cleared v i s
-  cleared-next s i h = rw add-one (cleared-set s i h)
-
-  cleared_end : (s : List A) (i : ℕ) → length s ≤ i → cleared v i s ≡ s
+  cleared-rest : (n : ℕ) (s : List A) → n ≤ length s → take n s ++ replicate (length (drop n s)) v ≡ cleared v n s
   unfolding cleared
-  cleared_end [] i h = refl
-  cleared_end (x ∷ s) zero h = absurd (not-suc-le-zero h)
-  cleared_end (x ∷ s) (suc i) h = ap (λ (r : List A). x ∷ r) (cleared_end s i (le_of_suc-le-suc h))
+  cleared-rest zero s h = cleared-front s
+  cleared-rest (suc n) [] h = absurd (not-suc-le-zero h)
+  cleared-rest (suc n) (x ∷ s) h = ap (λ (r : List A). x ∷ r) (cleared-rest n s (le_of_suc-le-suc h))
 
-  pub record Clearing (from i : ℕ) (s now : List A) : Type 0 where
-    pub least : from ≤ i
-    pub long : length now ≡ length s
-    pub same_in_the_end : cleared v i now ≡ cleared v from s
-
-  pub clearing_start : {from : ℕ} (s : List A) → Clearing from from s s
-  clearing_start s = record { least = omega arith; long = refl; same_in_the_end = refl }
-
-  pub clearing_next : {from i : ℕ} {s now : List A} → Clearing from i s now → i < length now → Clearing from (i + 1) s (set now i v)
-  clearing_next {from} {i} {s} {now} g h = record {
-    least = omega (arith, g.least);
-    long = length-set now i v ∙ g.long;
-    same_in_the_end = cleared-next now i h ∙ g.same_in_the_end;
-  }
-
-  pub clearing_end : {from i : ℕ} {s now : List A} → Clearing from i s now → length now ≤ i → now ≡ cleared v from s
-  clearing_end {from} {i} {s} {now} g h = sym (cleared_end now i h) ∙ g.same_in_the_end
+  -- after `s[n..].fill(v)`
+  pub filled : (n : ℕ) (s filling : List A) → n ≤ length s → filling ≡ replicate (length (take (length s - n) (drop n s))) v → put_mid n (length s - n) s filling ≡ cleared v n s
+  filled n s filling h e =
+      let all : take (length s - n) (drop n s) ≡ drop n s = take_rest s n in
+      let none : drop (length s - n) (drop n s) ≡ [] = drop_of_length-le (drop n s) (omega (arith, length-drop n s)) in
+      rw (e, none, append-nil, all) (cleared-rest n s h)
 
   all-cleared : (now old : List A) → length now ≡ length old → cleared v 0 now ≡ map (λ (x : A). v) old
   unfolding cleared

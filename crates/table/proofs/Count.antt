@@ -6,28 +6,33 @@ use native.Mathlib.Omega.{arith}
 use mathlib.Core.Path.{◌≡◌, refl, sym, ap, ◌∙◌, subst}
 use mathlib.Core.Bool.{Bool, true, false, ◌||◌, cond, or-true, or-false, and-true}
 use mathlib.Core.List.{List, [], ◌∷◌, map}
-use lib.ListN.{length, get_or, take, drop, length-map}
-use lib.Seq.{slice-cons, slice_empty, take_all}
+use lib.ListN.{length, get_or, take, length-map}
+use lib.Seq.{take_all}
 use lib.Dec.{eqb}
 use borrow.Author.Tests.{eq-eqb}
 use Rattle.basics.proofs.Bools.{by_test, clash, and_both}
+use Rattle.std.specs.List.{list_any}
+use Rattle.std.specs.Result.{is_ok}
+use Rattle.std.specs.Prelude.{Result, Ok, Err}
 use Rattle.basics.specs.Lists.{has}
 use Rattle.geometry.specs.declared.Position.{Position}
 use Rattle.table.specs.declared.Row.{Row}
 use Rattle.table.specs.Rows.{Slot, slotted, slot_of, before, same, chain, sorted, held, row_in, put_row, put_in}
-use Rattle.table.specs.Posts.{CountAfter}
+use Rattle.table.specs.Posts.{Finds, CountAfter}
 use Rattle.table.proofs.Order.{before_trans, before_irrefl, before-total, same-eq, chain-sorted}
 use Rattle.table.proofs.Stores.{length-put}
 use Rattle.table.proofs.All.{all-next, sorted_all}
 
--- the walk of `among`
-pub has-step : (v n : ℕ) (s : List ℕ) (i : ℕ) → i < n → n ≤ length s → has v (drop i (take n s)) ≡ (eqb (get_or s i 0) v || has v (drop (i + 1) (take n s)))
+-- what `contains` answers of numbers
+pub any-has : (v : ℕ) (s : List ℕ) → list_any (λ (j : ℕ). eqb j v) s ≡ has v s
 unfolding has
-has-step v n s i h k = rw (add-one, slice-cons i n s 0 h k)
+any-has v [] = refl
+any-has v (j ∷ s) = ap (λ (b : Bool). eqb j v || b) (any-has v s)
 
-pub has_end : (v n : ℕ) (s : List ℕ) (i : ℕ) → i ≤ n → n ≤ i → has v (drop i (take n s)) ≡ false
-unfolding has
-has_end v n s i h k = let e : i ≡ n = omega arith in rw (e, slice_empty n s)
+-- what a search that finds a slot, or its place, says of whether it is there
+pub finds-held : (p : Slot) (slots : List Slot) (r : Result ℕ ℕ) → Finds p slots r → held p slots ≡ is_ok r
+finds-held p slots (Ok at) f = f.1
+finds-held p slots (Err at) f = f.1
 
 unfoldable pub there : Slot → List Slot → Bool
 there p [] = false
@@ -64,7 +69,8 @@ same_key : (id : ℕ) (at : Position) (k l : ℕ) → same (slot_of (row_in id a
 unfolding same
 same_key id at k l = rw (eq-eqb id id refl) (and-true (eqb k l))
 
-pub there_all : (id : ℕ) (at : Position) (l : ℕ) (ks : List ℕ) (rows : List Row) → there (slot_of (row_in id at l)) (map slot_of (put_in id at ks rows)) ≡ (has l ks || there (slot_of (row_in id at l)) (map slot_of rows))
+pub there_all : (id : ℕ) (at : Position) (l : ℕ) (ks : List ℕ) (rows : List Row)
+    → there (slot_of (row_in id at l)) (map slot_of (put_in id at ks rows)) ≡ (has l ks || there (slot_of (row_in id at l)) (map slot_of rows))
 unfolding put_in has
 there_all id at l [] rows = refl
 there_all id at l (k ∷ ks) rows =

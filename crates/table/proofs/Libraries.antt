@@ -17,7 +17,7 @@ use Rattle.basics.proofs.Lists.{length-tab, map-tab, tab-take}
 use Rattle.table.specs.declared.Row.{Row}
 use Rattle.table.specs.Rows.{slot_of, slots_of, key_in, id_in, x_in, y_in, z_in}
 use Rattle.table.specs.Library.{Library, library, row_at, rows_of, table, write, blank, lengths, Space, space, level, fits, roomy, sound_layout}
-use Rattle.table.specs.Posts.{Ordered, Long, Room, InOrder, each_of}
+use Rattle.table.specs.Posts.{Ordered, Long, Room, InOrder, each_of, counted}
 
 -- ---- the rows that the lists hold
 
@@ -218,19 +218,15 @@ space_anew rows l h = space-write rows (blank l) (unfold space in subst (λ (s :
 
 -- ---- one thing done to each list, where that is what writing rows is to one list
 
--- the library with another count
-abbrev pub counted : ℕ → Library → Library
-counted n l = library l.keys l.ids l.xs l.ys l.zs n
-
-pub each_written : (F : (A : Type 0) → A → List A → List A) (row : Row) (rows : List Row) (l after : Library) → Room l l.used → Room l (length rows)
+pub each_written : (F : (A : Type 0) → A → List A → List A) (row : Row) (rows : List Row) (l after : Library) (n : ℕ) → Room l l.used → Room l (length rows)
     → ((A : Type 0) (f : Row → A) (c : List A) → map f (table l) ≡ take l.used c → length rows ≤ length c → over (map f rows) c ≡ F A (f row) c)
-    → counted 0 after ≡ each_of F row (counted 0 l) → after.used ≡ length rows → after ≡ write rows l
+    → n ≡ length rows → after ≡ counted n (each_of F row l) → after ≡ write rows l
 unfolding write
-each_written F row rows l after h m law e n = λ i. record {
-  keys = (ap (λ (k : Library). k.keys) e ∙ sym (law ℕ key_in l.keys (table-keys l h.0) m.0)) i;
-  ids = (ap (λ (k : Library). k.ids) e ∙ sym (law ℕ id_in l.ids (table-ids l h.1.0) m.1.0)) i;
-  xs = (ap (λ (k : Library). k.xs) e ∙ sym (law Float x_in l.xs (table-xs l h.1.1.0) m.1.1.0)) i;
-  ys = (ap (λ (k : Library). k.ys) e ∙ sym (law Float y_in l.ys (table-ys l h.1.1.1.0) m.1.1.1.0)) i;
-  zs = (ap (λ (k : Library). k.zs) e ∙ sym (law Float z_in l.zs (table-zs l h.1.1.1.1.0) m.1.1.1.1.0)) i;
-  used = n i;
+each_written F row rows l after n h m law k e = e ∙ λ i. record {
+  keys = sym (law ℕ key_in l.keys (table-keys l h.0) m.0) i;
+  ids = sym (law ℕ id_in l.ids (table-ids l h.1.0) m.1.0) i;
+  xs = sym (law Float x_in l.xs (table-xs l h.1.1.0) m.1.1.0) i;
+  ys = sym (law Float y_in l.ys (table-ys l h.1.1.1.0) m.1.1.1.0) i;
+  zs = sym (law Float z_in l.zs (table-zs l h.1.1.1.1.0) m.1.1.1.1.0) i;
+  used = k i;
 }

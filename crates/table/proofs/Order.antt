@@ -121,6 +121,12 @@ lower-tab p (suc n) f (suc r) h below above =
     rw (below 0 (suc-le-suc zero-le))
     (ap suc (lower-tab p n (λ i. f (suc i)) r (le_of_suc-le-suc h) (λ k l. below (suc k) (suc-le-suc l)) (λ l. above (suc-le-suc l))))
 
+-- where the slots that stand before p and those that do not have met
+pub lower-met : (p : Slot) (n : ℕ) (f : ℕ → Slot) (lo hi : ℕ) → hi ≤ n → hi ≤ lo → lo ≤ hi
+    → ((k : ℕ) → k < lo → before (f k) p ≡ true) → ((k : ℕ) → hi ≤ k → k < n → before (f k) p ≡ false)
+    → lo ≡ lower p (tab n f)
+lower-met p n f lo hi h k l below above = lower-tab p n f lo (omega arith) below (λ m. above lo k m)
+
 pub held-tab : (p : Slot) (n : ℕ) (f : ℕ → Slot) → lower p (tab n f) < n → held p (tab n f) ≡ same (f (lower p (tab n f))) p
 unfolding held lower
 held-tab p zero f h = absurd (not-suc-le-zero h)

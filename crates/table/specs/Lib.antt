@@ -2,3 +2,4 @@
 pub mod Rows
 pub mod Library
 pub mod Posts
+pub mod Lent

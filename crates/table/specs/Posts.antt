@@ -1,16 +1,12 @@
 -- What the functions over the rows ask and ensure. Definitions only.
-use Rattle.std.specs.Prelude.{ℕ, zero, suc, ◌+◌, ◌*◌, ◌≤◌, ◌<◌, ◌≡◌, ◌⊎◌, true, List, [], ◌∷◌, map, length, get_or, set, Float}
+use Rattle.std.specs.Prelude.{ℕ, zero, suc, ◌≤◌, ◌≡◌, true, false, List, [], ◌∷◌, map, length, set, Float, Result, Ok, Err}
+use Rattle.floats.specs.Rounded.{zero_f}
 use Rattle.geometry.specs.declared.Position.{Position}
 use Rattle.table.specs.declared.Row.{Row}
-use Rattle.table.specs.Rows.{Slot, slot_of, sorted, slots_of, key_in, id_in, x_in, y_in, z_in, put_in}
+use Rattle.table.specs.Rows.{Slot, slot_of, sorted, slots_of, lower, held, key_in, id_in, x_in, y_in, z_in, put_in}
 use Rattle.table.specs.Library.{Library, library, table, write, lengths}
 
--- ---- keys alone, and keys with ids
-
--- the first `used` keys do not descend
-pub record Rising (keys : List ℕ) (used : ℕ) : Type 0 where
-  pub room : used ≤ length keys
-  pub rise : (i j : ℕ) → i ≤ j → j < used → get_or keys i 0 ≤ get_or keys j 0
+-- ---- keys with ids
 
 -- the first `used` entries of two lists are slots in strict order
 pub record Ordered (keys ids : List ℕ) (used : ℕ) : Type 0 where
@@ -18,27 +14,10 @@ pub record Ordered (keys ids : List ℕ) (used : ℕ) : Type 0 where
   pub in_ids : used ≤ length ids
   pub order : sorted (slots_of keys ids used) ≡ true
 
--- what stands at `at` is before place p and r is 1, or it is not and r is 0
-abbrev pub OneBelow : ℕ → ℕ → ℕ → Type 0
-OneBelow p at r = ((r ≡ 1) × (at < p)) ⊎ ((r ≡ 0) × (p ≤ at))
-
--- place p stands from `from` on, and no farther than n after it
-pub record Between (p from n used : ℕ) : Type 0 where
-  pub least : from ≤ p
-  pub most : p ≤ from + n
-  pub room : from + n ≤ used
-
--- place p stands from `from` on, where eight parts of q places begin, the last of which has no end
-pub record Parts (p from q used : ℕ) : Type 0 where
-  pub least : from ≤ p
-  pub some : 1 ≤ q
-  pub room : from + 7 * q ≤ used
-
--- it stands in the part that begins at r
-pub record InPart (p from q r : ℕ) : Type 0 where
-  pub least : r ≤ p
-  pub most : r ≤ from + 7 * q
-  pub within : r < from + 7 * q → p < r + q
+-- p is in the list of slots, at that index, or would stand at that index
+abbrev pub Finds : Slot → List Slot → Result ℕ ℕ → Type 0
+Finds p slots (Ok at) = (at ≡ lower p slots) × (held p slots ≡ true)
+Finds p slots (Err at) = (at ≡ lower p slots) × (held p slots ≡ false)
 
 -- n is the number of rows once a mark of this id is in each of the containers, whatever the rows of these slots hold and wherever the mark stands
 abbrev pub CountAfter : List Slot → ℕ → List ℕ → ℕ → Type 0
@@ -84,10 +63,6 @@ pub record Takes (f : List Row → List Row) (l : Library) : Type 0 where
 abbrev pub Becomes : (List Row → List Row) → Library → Library → Type 0
 Becomes f l after = after ≡ write (f (table l)) l
 
--- the lists alone, no row of them being in use
-abbrev pub lists : List ℕ → List ℕ → List Float → List Float → List Float → Library
-lists keys ids xs ys zs = library keys ids xs ys zs 0
-
 -- one thing done to each list with the row's field
 abbrev pub each_of : ((A : Type 0) → A → List A → List A) → Row → Library → Library
 each_of F row l = library (F ℕ (key_in row) l.keys) (F ℕ (id_in row) l.ids) (F Float (x_in row) l.xs) (F Float (y_in row) l.ys) (F Float (z_in row) l.zs) l.used
@@ -98,3 +73,11 @@ written at A v l = set l at v
 
 abbrev pub between : ℕ → ℕ → (A : Type 0) → A → List A → List A
 between at n A v l = opened at n v l
+
+-- the library with another count
+abbrev pub counted : ℕ → Library → Library
+counted n l = library l.keys l.ids l.xs l.ys l.zs n
+
+-- 0 or +0 in every entry from an index to the end
+abbrev pub cleared_from : ℕ → Library → Library
+cleared_from n l = library (cleared 0 n l.keys) (cleared 0 n l.ids) (cleared zero_f n l.xs) (cleared zero_f n l.ys) (cleared zero_f n l.zs) l.used

@@ -15,6 +15,8 @@ use mathlib.Core.Logic.{◌⊎◌, inl, inr}
 use Rattle.basics.proofs.Bools.{which, by_test}
 use Rattle.basics.specs.Lists.{over}
 use Rattle.basics.proofs.Stores.{sets_append, sets_front}
+use Rattle.text.specs.declared.Writer.{Writer}
+use Rattle.text.specs.Writers.{Puts}
 use Rattle.text.specs.Text.{number_from, number_of, ascii, digit, decimal_digits, decimal, entry_text, entries, list_text, refusal, Put, Front}
 
 -- ---- texts in a buffer
@@ -31,6 +33,17 @@ put_both {a} {b} {l} {at = at} p q = record {
 
 pub put-length : {a l l' : List ℕ} {at next : ℕ} → Put a l at l' next → length l' ≡ length l
 put-length {a} {l} {at = at} p = rw p.stands (length-sets l at a)
+
+-- ---- the same of a writer
+
+pub puts_nothing : (w : Writer) → Puts [] w w
+puts_nothing w = record { same = refl; put = put-nothing w.buffer.now w.at }
+
+-- one text after another
+pub puts_both : {a b : List ℕ} {w w' w'' : Writer} → Puts a w w' → Puts b w' w'' → Puts (a ++ b) w w''
+puts_both p q = record { same = q.same ∙ p.same; put = put_both p.put q.put }
+
+-- ---- a text at the front of a buffer
 
 -- a text that the buffer has room for, put at its front
 pub put-over : {a l l' : List ℕ} {next : ℕ} → Put a l 0 l' next → length a ≤ length l → l' ≡ over a l
@@ -181,17 +194,17 @@ pub list_length : (ns : List ℕ) → length (list_text ns) ≡ length (entries 
 unfolding list_text
 list_length ns = simp length-append (omega arith)
 
-pub refusal-length : (ns : List ℕ) → length (refusal ns) ≡ length (entries (ascii " ") 0 ns) + 9
+pub refusal_length : (ns : List ℕ) → length (refusal ns) ≡ length (entries (ascii " ") 0 ns) + 9
 unfolding refusal
-refusal-length ns = simp length-append (omega arith)
+refusal_length ns = simp length-append (omega arith)
 
 -- the line of one number
 pub refusal_short : (n : ℕ) → n < 2 ^ 64 → length (refusal (n ∷ [])) ≤ 29
 unfolding entries entry_text
-refusal_short n h = omega (arith, refusal-length (n ∷ []), decimal_20 n h, length-append (decimal n) [])
+refusal_short n h = omega (arith, refusal_length (n ∷ []), decimal_20 n h, length-append (decimal n) [])
 
 -- that of a number and what belongs to it
 pub refusal_of_two : (n m : ℕ) → n < 2 ^ 64 → m < 2 ^ 64 → length (refusal (n ∷ m ∷ [])) ≤ 50
 unfolding entries entry_text
 refusal_of_two n m h k =
-    omega (arith, refusal-length (n ∷ m ∷ []), decimal_20 n h, decimal_20 m k, length-append (decimal n) ((ascii " " ++ decimal m) ++ []), length-append (ascii " " ++ decimal m) [])
+    omega (arith, refusal_length (n ∷ m ∷ []), decimal_20 n h, decimal_20 m k, length-append (decimal n) ((ascii " " ++ decimal m) ++ []), length-append (ascii " " ++ decimal m) [])

@@ -18,9 +18,8 @@ use Rattle.floats.proofs.Choice.{abs-abs, within-ends}
 use Rattle.floats.proofs.Order.{le_left, le_right, le_join, lt-le, lt_is_not_le}
 use Rattle.floats.proofs.Roots.{is-nan, zero_number, no_minus_infinity, zero-least, sqrt-number, sqrt_from_zero}
 use Rattle.floats.proofs.Laws.{root_monotone, root_sign, root_of_product}
-use Rattle.windows.specs.declared.Distance.{Distance}
-use Rattle.windows.specs.declared.Distance.TheVariants.{Root, RootLess}
-use Rattle.windows.specs.Window.{distance_at, told_by, steady, lies, Rooted, Square}
+use Rattle.std.specs.Prelude.{Option, Some, None}
+use Rattle.windows.specs.Window.{distance_at, told_by, steady, lies, Rooted, Square, Tells}
 use Rattle.windows.proofs.Less.{Plus, less_mono}
 
 -- ---- a square above zero
@@ -56,10 +55,10 @@ module _ (s t : Float) (S : Binary64 s) (U : Binary64 t) (z : lt zero_f s ≡ tr
   less_roots : (r : Float) → finite r ≡ true → le (sqrt_of s ⊖ r) (sqrt_of t ⊖ r) ≡ true
   less_roots r f = less_mono (sqrt_of s) (sqrt_of t) r (root_plus s from_zero (above s z)) (root_plus t (le_join zero_f s t from_zero h) (above t (up_from s t z h))) f roots
 
-  pub told_mono : (d : Distance) → steady d ≡ true → le (told_by d s) (told_by d t) ≡ true
+  pub told_mono : (d : Option Float) → steady d ≡ true → le (told_by d s) (told_by d t) ≡ true
   unfolding told_by steady
-  told_mono Root e = roots
-  told_mono (RootLess r) e = less_roots r e
+  told_mono None e = roots
+  told_mono (Some r) e = less_roots r e
 
 -- ---- a number that is the root of its own square
 
@@ -76,7 +75,7 @@ rooted x X lo hi =
     }
 
 -- so its square tells its distance
-module _ (d : Distance) (x : Float) (e : steady d ≡ true) (w : Rooted x) where
+module _ (d : Option Float) (x : Float) (e : steady d ≡ true) (w : Rooted x) where
   at_root : told_by d (x ⊗ x) ≡ distance_at d x
   unfolding told_by
   at_root = ap (distance_at d) w.back
@@ -87,23 +86,34 @@ module _ (d : Distance) (x : Float) (e : steady d ≡ true) (w : Rooted x) where
     below = λ s S z h. (p, subst (λ (v : Float). le (told_by d s) v ≡ true) at_root (told_mono s (x ⊗ x) S (mul-fits binary64 x x) z h d e));
   }
 
-pub no_square : (d : Distance) (x : Float) (passed : Bool) → Square d x passed nan
+pub no_square : (d : Option Float) (x : Float) (passed : Bool) → Square d x passed nan
 no_square d x passed = record { above = λ s S h. clash is-nan (le_left nan s h); below = λ s S z h. clash is-nan (le_right s nan h) }
 
--- ---- the four squares of a window, by the test that passed at the distance v of a root
+-- where no square is tried
+pub untold : (d : Option Float) (from to : Float) → Tells d from to nan nan nan nan
+untold d from to = record {
+  by_low = λ s S h. clash is-nan (le_left nan s h);
+  by_high = λ s S z h. clash is-nan (le_right s nan h);
+  by_under = λ s S z h. clash is-nan (le_right s nan h);
+  by_over = λ s S h. clash is-nan (le_left nan s h);
+}
 
-module _ (d : Distance) (b x v c : Float) (e : v ≡ distance_at d x) where
-  pub from_tells : Square d x (le b v) c → (s : Float) → Binary64 s → le c s ≡ true → le b (told_by d s) ≡ true
-  from_tells q s S h = let w = q.above s S h in le_join b v (told_by d s) w.0 (rw e w.1)
+-- ---- the four squares of a window, by the test that passed at the distance of a root
 
-  pub above_tells : Square d x (not (le v b)) c → (s : Float) → Binary64 s → le c s ≡ true → le (told_by d s) b ≡ false
-  above_tells q s S h = let w = q.above s S h in by_test (le (told_by d s) b) (λ g. clash (le_join v (told_by d s) b (rw e w.1) g) (not-true _ w.0)) (λ g. g)
+module _ (d : Option Float) (b x : Float) (passed : Bool) (c : Float) where
+  pub from_tells : passed ≡ le b (distance_at d x) → Square d x passed c → (s : Float) → Binary64 s → le c s ≡ true → le b (told_by d s) ≡ true
+  from_tells e q s S h = let w = q.above s S h in le_join b (distance_at d x) (told_by d s) (sym e ∙ w.0) w.1
 
-  pub within_tells : Square d x (le v b) c → (s : Float) → Binary64 s → lt zero_f s ≡ true → le s c ≡ true → le (told_by d s) b ≡ true
-  within_tells q s S z h = let w = q.below s S z h in le_join (told_by d s) v b (rw e w.1) w.0
+  pub above_tells : passed ≡ not (le (distance_at d x) b) → Square d x passed c → (s : Float) → Binary64 s → le c s ≡ true → le (told_by d s) b ≡ false
+  above_tells e q s S h =
+      let w = q.above s S h in by_test (le (told_by d s) b) (λ g. clash (le_join (distance_at d x) (told_by d s) b w.1 g) (not-true _ (sym e ∙ w.0))) (λ g. g)
 
-  pub below_tells : Square d x (not (le b v)) c → (s : Float) → Binary64 s → lt zero_f s ≡ true → le s c ≡ true → le b (told_by d s) ≡ false
-  below_tells q s S z h = let w = q.below s S z h in by_test (le b (told_by d s)) (λ g. clash (le_join b (told_by d s) v g (rw e w.1)) (not-true _ w.0)) (λ g. g)
+  pub within_tells : passed ≡ le (distance_at d x) b → Square d x passed c → (s : Float) → Binary64 s → lt zero_f s ≡ true → le s c ≡ true → le (told_by d s) b ≡ true
+  within_tells e q s S z h = let w = q.below s S z h in le_join (told_by d s) (distance_at d x) b w.1 (sym e ∙ w.0)
+
+  pub below_tells : passed ≡ not (le b (distance_at d x)) → Square d x passed c → (s : Float) → Binary64 s → lt zero_f s ≡ true → le s c ≡ true → le b (told_by d s) ≡ false
+  below_tells e q s S z h =
+      let w = q.below s S z h in by_test (le b (told_by d s)) (λ g. clash (le_join b (told_by d s) (distance_at d x) g w.1) (not-true _ (sym e ∙ w.0))) (λ g. g)
 
 -- ---- in a window or out of it
 

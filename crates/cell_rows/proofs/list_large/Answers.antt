@@ -1,18 +1,20 @@
-use native.Mathlib.Omega.{arith}
-use Rattle.cell_rows.proofs.Tallies.{marking_start, marking_length, marking_room, marking_next, marking_end}
+use Rattle.std.proofs.Common.{refl, sym, ◌∙◌, arith}
+use Rattle.cell_rows.proofs.Tallies.{marking_start, marking_room, marking_large, marking_other, marking_end}
+use Rattle.cell_rows.proofs.list_large.Goals.{then-is_large, else-is_large}
 use Rattle.cell_rows.proofs.list_large.Goals as goal
 
 pub loop-cell-init : goal.loop-cell-init
-loop-cell-init c = marking_start c.requires.fact_3
+loop-cell-init c = marking_start c.requires
 
-pub note_large-n-requires : goal.note_large-n-requires
-note_large-n-requires c = record { fact_1 = c.requires.fact_1.axes; fact_2 = marking_room c.requires.fact_3 c.loop-cell.invariant (omega (arith, c.requires.fact_2, c.loop-cell-test.true)) c.bounding_box-b.ensures }
+pub bounds-large-n : goal.bounds-large-n
+bounds-large-n c = marking_room c.requires c.loop-cell.invariant (omega (arith, c.cell_count-cell-end.ensures)) c.bounding_box.ensures (sym c.is_large.ensures ∙ c.if-is_large.true)
 
 pub loop-cell-preserved : goal.loop-cell-preserved
-loop-cell-preserved c = marking_next c.requires.fact_3 c.loop-cell.invariant (omega (arith, c.requires.fact_2, c.loop-cell-test.true)) c.bounding_box-b.ensures c.note_large-n.ensures
-
-pub shape_of-large : goal.shape_of-large
-shape_of-large c = marking_length c.requires.fact_3 c.loop-cell.invariant
+loop-cell-preserved c =
+    elim c.if-is_large.branch [
+      | then-is_large w ↦ rw (w.n-is, w.large-is) (marking_large c.requires c.loop-cell.invariant (omega (arith, c.cell_count-cell-end.ensures)) c.bounding_box.ensures (sym c.is_large.ensures ∙ w.if-is_large.true) refl)
+      | else-is_large w ↦ rw (w.n-is, w.large-is) (marking_other c.requires c.loop-cell.invariant (omega (arith, c.cell_count-cell-end.ensures)) c.bounding_box.ensures (sym c.is_large.ensures ∙ w.if-is_large.false))
+    ]
 
 pub returns : goal.returns
-returns c = marking_end c.requires.fact_3 c.loop-cell.invariant (omega (arith, c.requires.fact_2, c.loop-cell-test.false))
+returns c = marking_end c.requires c.loop-cell.invariant (omega (arith, c.cell_count-cell-end.ensures))

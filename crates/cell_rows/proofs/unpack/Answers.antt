@@ -1,37 +1,30 @@
-use Prim.Native.Nat.{ℕ}
-use native.Mathlib.Omega.{arith}
-use mathlib.Core.List.{List, map}
-use mathlib.Core.Path.{◌≡◌, refl, ap, ap₂, ◌∙◌}
-use lib.ListN.{length-map, set, get_or, length-set}
-use lib.Seq.{paste, paste-zero}
-use Rattle.cell_rows.proofs.Over.{set_front, paste_ahead}
+use Rattle.std.proofs.Common.{◌≡◌, get_or, set, map, ap, ◌∙◌, arith}
+use lib.ListN.{length-map}
 use Rattle.cell_rows.specs.Steps.{packed_key, packed_cell}
+use Rattle.cell_rows.proofs.Over.{over_none, over_ahead, over_all, over-map_next}
 use Rattle.cell_rows.proofs.unpack.Goals as goal
 
 pub loop-i-init : goal.loop-i-init
-loop-i-init c = (omega arith, (refl, (refl, (paste-zero c.args.keys.now 0 (map packed_key c.args.keys.now), paste-zero c.args.cells.now 0 (map packed_cell c.args.keys.now)))))
+loop-i-init c = record { keys = over_none c.args.keys.now; cells = over_none c.args.cells.now }
 
 pub loop-i-preserved : goal.loop-i-preserved
 loop-i-preserved c =
     let l = c.loop-i in
-    let t = c.loop-i-test.true in
     let k₀ = c.args.keys.now in
-    let here : get_or l.keys l.i 0 ≡ get_or k₀ l.i 0 = ap (λ (x : List ℕ). get_or x l.i 0) l.invariant.1.1.1.0 ∙ paste_ahead k₀ (map packed_key k₀) l.i (omega (arith, c.requires, t)) (rw (length-map k₀ packed_key) (omega (arith, c.requires, t))) in (
-      omega (arith, t),
-      (
-        rw (length-set l.keys l.i (packed_key (get_or l.keys l.i 0))) l.invariant.1.0,
-        (
-          rw (length-set l.cells l.i (packed_cell (get_or l.keys l.i 0))) l.invariant.1.1.0,
-          (
-            ap₂ (λ (x : List ℕ) (v : ℕ). set x l.i (packed_key v)) l.invariant.1.1.1.0 here ∙ set_front packed_key k₀ k₀ l.i (omega (arith, c.requires, t)) (omega (arith, c.requires, t)),
-            ap₂ (λ (x : List ℕ) (v : ℕ). set x l.i (packed_cell v)) l.invariant.1.1.1.1 here ∙ set_front packed_cell c.args.cells.now k₀ l.i (omega (arith, c.requires, t)) (omega (arith, c.requires, t)),
-          ),
-        ),
-      ),
-    )
+    let here : get_or l.keys l.i 0 ≡ get_or k₀ l.i 0 = ap (λ x. get_or x l.i 0) l.invariant.keys ∙ over_ahead (map packed_key k₀) k₀ l.i 0 (omega (arith, length-map k₀ packed_key)) (omega arith) in
+    record {
+      keys = ap (λ x. set x l.i (packed_key (get_or l.keys l.i 0))) l.invariant.keys ∙ over-map_next packed_key k₀ k₀ l.i _ (omega arith) (omega arith) here;
+      cells = ap (λ x. set x l.i (packed_cell (get_or l.keys l.i 0))) l.invariant.cells ∙ over-map_next packed_cell k₀ c.args.cells.now l.i _ (omega arith) (omega (arith, c.requires)) here;
+    }
 
-pub returns : goal.returns
-returns c =
+pub returns-clause-keys : goal.returns-clause-keys
+returns-clause-keys c =
     let l = c.loop-i in
-    let e : l.i ≡ c.args.n = omega (arith, l.invariant.0, c.loop-i-test.false) in
-    (l.invariant.1.1.1.0 ∙ ap (paste c.args.keys.now 0 (map packed_key c.args.keys.now)) e, l.invariant.1.1.1.1 ∙ ap (paste c.args.cells.now 0 (map packed_cell c.args.keys.now)) e)
+    let k₀ = c.args.keys.now in
+    l.invariant.keys ∙ over_all (map packed_key k₀) k₀ l.i (omega (arith, length-map k₀ packed_key)) (omega arith)
+
+pub returns-clause-cells : goal.returns-clause-cells
+returns-clause-cells c =
+    let l = c.loop-i in
+    let k₀ = c.args.keys.now in
+    l.invariant.cells ∙ over_all (map packed_cell k₀) c.args.cells.now l.i (omega (arith, length-map k₀ packed_cell)) (omega (arith, c.requires))

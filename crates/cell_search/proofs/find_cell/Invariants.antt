@@ -1,18 +1,10 @@
--- `cell_search::find_cell` meets its contract. Invariants: no cell before `at` contains the position, and no axis before `i` fails. Assumes nothing.
-use Prim.Native.Nat.{◌-◌}
-use mathlib.Core.Path.{◌≡◌}
-use Rattle.mesh.specs.Mesh.{mesh_of}
+-- `cell_search::find_cell` meets its contract. Invariants: no cell before this one contains the position, and no axis before `i` fails. Assumes nothing.
+use Rattle.mesh.specs.Mesh.{seen}
 use Rattle.cell_search.proofs.Walk.{AxesPassed, Seeking}
 use Rattle.cell_search.proofs.find_cell.Given as goal
 
 abbrev pub invariant-loop-i : goal.invariant-loop-i
-invariant-loop-i l = (l.at ≡ l.initial.at) × AxesPassed l.ndim l.b l.x l.i
-
-abbrev pub decreases-loop-i : goal.decreases-loop-i
-decreases-loop-i l = l.ndim - l.i
+invariant-loop-i l = AxesPassed l.mesh.mesh.ndim l.b l.x l.i
 
 abbrev pub invariant-outer : goal.invariant-outer
-invariant-outer l = Seeking l.ndim (mesh_of l.coords l.corners) l.x l.cells l.from l.to l.initial.zeta l.at l.zeta
-
-abbrev pub decreases-outer : goal.decreases-outer
-decreases-outer l = l.to - l.at
+invariant-outer l = Seeking l.mesh.mesh.ndim (seen l.mesh.mesh) l.x l.cells l.initial.zeta l.cell_id-index l.zeta

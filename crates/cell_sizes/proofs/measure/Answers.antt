@@ -1,27 +1,36 @@
 -- `cell_sizes::measure` meets its contract. Assumes nothing.
-use Rattle.std.proofs.Common.{◌≤◌, arith, refl}
-use Rattle.floats.specs.Rounded.{◌⊗◌}
+use Rattle.std.proofs.Common.{arith, ◌≡◌, refl}
+use Rattle.std.specs.Prelude.{unwrap_or}
+use lib.Ieee.{of_bits}
+use Rattle.floats.specs.Rounded.{◌⊗◌, zero_f}
 use Rattle.cell_sizes.proofs.Measures.{sized_apart, sized_filed, few-numbered}
 use Rattle.cell_sizes.proofs.Boxes.{length-boxes}
 use Rattle.cell_sizes.specs.Large.{boxes, is_large}
-use Rattle.mesh.specs.Mesh.{mesh_of}
+use Rattle.mesh.specs.Mesh.{seen}
 use Rattle.cell_sizes.proofs.measure.Goals as goal
 
-pub part-requires : goal.part-requires
-part-requires c =
-    let m = mesh_of c.args.coords.now c.args.corners.now in
+pub part-requires-clause-a : goal.part-requires-clause-a
+part-requires-clause-a c =
+    let n = c.args.mesh.mesh.ndim in
+    let m = seen c.args.mesh.mesh in
     let limit = c.args.settings.large_cutoff ⊗ c.surround-all.result.largest in
-    let few = few-numbered (is_large limit) 0 (boxes c.args.ndim m) in
-    let h : c.count_large-found.result.large ≤ c.args.ncell = rw (c.count_large-found.ensures.large, c.requires.fact_2, ← length-boxes c.args.ndim m) few in record { fact_1 = omega (arith, c.requires.fact_4); fact_2 = c.requires.fact_4 }
+    omega (arith, few-numbered (is_large limit) 0 (boxes n m), length-boxes n m, c.count_large-found.ensures.large)
 
 pub returns-then-part-settings : goal.returns-then-part-settings
+unfolding of_bits
 returns-then-part-settings c =
-    let m = mesh_of c.args.coords.now c.args.corners.now in
-    let limit = c.args.settings.large_cutoff ⊗ c.surround-all.result.largest in
-    sized_apart c.args.ndim m c.args.settings c.surround-all.result limit c.count_large-found.result c.args.ncell c.part.result c.surround-all.ensures refl c.count_large-found.ensures c.requires.fact_2 c.part.ensures c.if-part-settings.true
+    let n = c.args.mesh.mesh.ndim in
+    let m = seen c.args.mesh.mesh in
+    let t = c.args.settings in
+    let limit = t.large_cutoff ⊗ c.surround-all.result.largest in
+    let longest : c.unwrap_or.result ≡ unwrap_or c.count_large-found.result.longest zero_f = c.unwrap_or.ensures in
+    rw longest
+    (sized_apart n m t c.surround-all.result limit c.count_large-found.result c.cell_count.result c.part.result c.surround-all.ensures refl c.count_large-found.ensures c.cell_count.ensures c.part.ensures c.if-part-settings.true)
 
 pub returns : goal.returns
 returns c =
-    let m = mesh_of c.args.coords.now c.args.corners.now in
-    let limit = c.args.settings.large_cutoff ⊗ c.surround-all.result.largest in
-    sized_filed c.args.ndim m c.args.settings c.surround-all.result limit c.count_large-found.result c.args.ncell c.part.result c.surround-all.ensures refl c.count_large-found.ensures c.requires.fact_2 c.part.ensures c.if-part-settings.false
+    let n = c.args.mesh.mesh.ndim in
+    let m = seen c.args.mesh.mesh in
+    let t = c.args.settings in
+    let limit = t.large_cutoff ⊗ c.surround-all.result.largest in
+    sized_filed n m t c.surround-all.result limit c.count_large-found.result c.cell_count.result c.part.result c.surround-all.ensures refl c.count_large-found.ensures c.cell_count.ensures c.part.ensures c.if-part-settings.false

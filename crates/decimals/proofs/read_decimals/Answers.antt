@@ -1,53 +1,23 @@
--- `read_decimals` meets its contract: a way out for each number of decimals.
+-- A way out for each number of decimals.
 -- Assumes nothing.
-use Rattle.std.proofs.Common.{ℕ, ◌^◌, ◌<◌, mul-one, arith, ◌≡◌, sym, ap, ◌∙◌, List, length}
-use mathlib.Core.Option.{some}
-use Rattle.decimals.specs.Posts.{digits_in}
-use Rattle.decimals.proofs.Digits.{digits_are, digits-told, digits-below}
-use Rattle.decimals.proofs.Parts.{decimals_bad, decimals_good}
+use Rattle.std.proofs.Common.{arith}
+use Rattle.decimals.proofs.Parts.{decimals_bad, decimals_good, decimals_three, digits_small}
 use Rattle.decimals.proofs.read_decimals.Goals as goal
 
-abbrev field : (c : goal.Then-field-eq1) → List ℕ
-field c = c.args.field.now
-
-told : (c : goal.Then-field-eq1) → some c.in-Number.n ≡ digits_in 3 (field c)
-told c = rw c.in-Number.is at c.read_digits-read.ensures
-
-small : (c : goal.Then-field-eq1) → c.in-Number.n < 10 ^ 3
-small c = let e = digits-told 3 (field c) (told c) in rw e.1 (digits-below 3 (field c) e.0)
-
-abbrev field--Then-field-eq2 : (c : goal.Then-field-eq2) → List ℕ
-field--Then-field-eq2 c = c.args.field.now
-
-told--Then-field-eq2 : (c : goal.Then-field-eq2) → some c.in-Number.n ≡ digits_in 3 (field--Then-field-eq2 c)
-told--Then-field-eq2 c = rw c.in-Number.is at c.read_digits-read.ensures
-
-small--Then-field-eq2 : (c : goal.Then-field-eq2) → c.in-Number.n < 10 ^ 3
-small--Then-field-eq2 c = let e = digits-told 3 (field--Then-field-eq2 c) (told--Then-field-eq2 c) in rw e.1 (digits-below 3 (field--Then-field-eq2 c) e.0)
-
-abbrev field--Else-field-eq2 : (c : goal.Else-field-eq2) → List ℕ
-field--Else-field-eq2 c = c.args.field.now
-
-told--Else-field-eq2 : (c : goal.Else-field-eq2) → some c.in-Number.n ≡ digits_in 3 (field--Else-field-eq2 c)
-told--Else-field-eq2 c = rw c.in-Number.is at c.read_digits-read.ensures
-
-pub returns-in_default : goal.returns-in_default
-returns-in_default c = decimals_bad _ (rw c.in_default.is at c.read_digits-read.ensures)
+pub returns-in_err-n : goal.returns-in_err-n
+returns-in_err-n c = rw c.from_residual.ensures (decimals_bad _ c.in_err-n.ensures)
 
 pub overflow_mul-result : goal.overflow_mul-result
-overflow_mul-result c = omega (arith, small c)
+overflow_mul-result c = omega (arith, digits_small c.args.field.now 3 c.in_ok-n.n c.in_ok-n.ensures)
 
-pub returns-then-field-eq1 : goal.returns-then-field-eq1
-returns-then-field-eq1 c = decimals_good (field c) _ 100 (told c) (rw c.if-field-eq1.true)
+pub overflow_mul-result-in-2 : goal.overflow_mul-result-in-2
+overflow_mul-result-in-2 c = omega (arith, digits_small c.args.field.now 3 c.in_ok-n.n c.in_ok-n.ensures)
 
-pub overflow_mul-result-then-field-eq2 : goal.overflow_mul-result-then-field-eq2
-overflow_mul-result-then-field-eq2 c = omega (arith, small--Then-field-eq2 c)
+pub returns-in-1 : goal.returns-in-1
+returns-in-1 c = decimals_good c.args.field.now _ 100 c.in_ok-n.ensures (rw c.in-1.is)
 
-pub returns-then-field-eq2 : goal.returns-then-field-eq2
-returns-then-field-eq2 c = decimals_good (field--Then-field-eq2 c) _ 10 (told--Then-field-eq2 c) (rw c.if-field-eq2.true)
+pub returns-in-2 : goal.returns-in-2
+returns-in-2 c = decimals_good c.args.field.now _ 10 c.in_ok-n.ensures (rw c.in-2.is)
 
-pub returns : goal.returns
-returns c =
-    let d = digits_are 3 (field--Else-field-eq2 c) (digits-told 3 (field--Else-field-eq2 c) (told--Else-field-eq2 c)).0 in
-    let three : length (field--Else-field-eq2 c) ≡ 3 = omega (arith, d.some, d.most, c.if-field-eq2.false, c.if-field-eq1.false) in
-    ap some (sym (mul-one c.in-Number.n)) ∙ decimals_good (field--Else-field-eq2 c) _ 1 (told--Else-field-eq2 c) (rw three)
+pub returns-in_default : goal.returns-in_default
+returns-in_default c = decimals_three c.args.field.now _ c.in_ok-n.ensures (λ e. omega arith) (λ e. omega arith)

@@ -1,16 +1,19 @@
 -- `look_up` meets its contract: the tests, and then the look-up.
 -- Assumes nothing.
-use mathlib.Core.Path.{sym, ◌∙◌}
-use Rattle.directory.proofs.Passing.{place-room, passing, directory-numbered, look-refused, look-told}
+use Rattle.std.proofs.Common.{sym, ap, ◌∙◌}
+use lib.Seq.{length-take-le}
+use Rattle.basics.specs.Refusals.{success}
+use Rattle.basics.proofs.Answers.{raised_answer}
+use Rattle.directory.specs.Calls.{look_of}
+use Rattle.directory.proofs.Passing.{places-room, look-refused, look-told}
 use Rattle.directory.proofs.look_up.Goals as goal
 
-pub returns-then-fault-ne0 : goal.returns-then-fault-ne0
-returns-then-fault-ne0 c = look-refused c.args.sheet _ _ c.args.key c.directory_fault-fault.ensures c.if-fault-ne0.true
+pub returns-in_err-directory_fault : goal.returns-in_err-directory_fault
+returns-in_err-directory_fault c =
+    raised_answer look_of c.in_err-directory_fault.field-0.0 c.from_residual.result c.from_residual.ensures ∙ look-refused c.args.sheet _ _ c.args.key (sym c.in_err-directory_fault.ensures)
 
-pub find_place-requires : goal.find_place-requires
-find_place-requires c =
-    let told = sym c.if-fault-ne0.false ∙ c.directory_fault-fault.ensures in
-    (place-room _ (passing c.args.sheet _ _ (directory-numbered c.args.sheet _ _ told)).places-sound).0
+pub slice_bounds-find_place-end : goal.slice_bounds-find_place-end
+slice_bounds-find_place-end c = sym (length-take-le c.args.directory.used c.args.directory.keys.now (places-room c.args.sheet _ _ (sym c.in_ok-directory_fault.ensures)).0)
 
 pub returns : goal.returns
-returns c = c.find_place.ensures ∙ look-told c.args.sheet _ _ c.args.key (sym c.if-fault-ne0.false ∙ c.directory_fault-fault.ensures)
+returns c = ap success c.find_place.ensures ∙ look-told c.args.sheet _ _ (sym c.in_ok-directory_fault.ensures) c.args.key

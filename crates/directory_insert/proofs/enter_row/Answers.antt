@@ -1,75 +1,81 @@
 -- `enter_row` meets its contract: the laws of one more row whose container has a place, and of one that opens a place.
 -- Assumes nothing.
-use borrow.Author.Rules.{rules}
-use native.Mathlib.Omega.{arith}
-use Rattle.directory_insert.proofs.Directories.{enter-most, enter-small, enter_there, enter-count, entered_there, enter-room, entered_new_place}
+use Rattle.std.proofs.Common.{ℕ, true, false, arith, rules, take, get_or, ◌≡◌, ◌∙◌, sym, ap}
+use Rattle.table.specs.Rows.{lead}
+use Rattle.directory.specs.Directory.{Directory}
+use Rattle.directory.specs.Lent.{kept_mut}
+use Rattle.directory_insert.specs.Posts.{found}
+use Rattle.directory_insert.proofs.Directories.{enter-most, enter_there, enter-count, entered_there, enter-room, entered_new_place}
 use Rattle.directory_insert.proofs.enter_row.Goals as goal
+
+-- what is told of the places as they are seen holds of them
+module _ {seen d : Directory} (same : seen ≡ d) (key : ℕ) where
+  at_of : {at : ℕ} → at ≡ lead key (take d.used seen.keys) → at ≡ lead key (take d.used d.keys)
+  at_of e = e ∙ ap (λ (x : Directory). lead key (take d.used x.keys)) same
+
+  has_of : found key (take d.used seen.keys) ≡ true → found key (take d.used d.keys) ≡ true
+  has_of e = sym (ap (λ (x : Directory). found key (take d.used x.keys)) same) ∙ e
+
+  has_not : found key (take d.used seen.keys) ≡ false → found key (take d.used d.keys) ≡ false
+  has_not e = sym (ap (λ (x : Directory). found key (take d.used x.keys)) same) ∙ e
 
 pub overflow_add-at : goal.overflow_add-at
 overflow_add-at c =
-    let there = enter_there c.args.key c.args.rows _ c.requires c.first_of-at.ensures c.has_place.ensures c.if-has_place.true in
-    record { fits = omega (arith, there, c.requires.room.0) }
+    let same = c.as_directory-before.ensures in
+    let there = enter_there c.args.key c.args.rows _ c.requires (at_of same c.args.key c.in-Ok.ensures.0) (has_of same c.args.key c.in-Ok.ensures.1) in
+    record { fits = omega (arith, c.requires.room.0) }
 
-pub move_up-requires : goal.move_up-requires
-move_up-requires c = record { fact_1 = c.requires.room.1.0; fact_2 = enter-small c.args.key c.args.rows _ c.requires c.first_of-at.ensures c.has_place.ensures }
-
-pub offset_bounds-dir_counts-at : goal.offset_bounds-dir_counts-at
-offset_bounds-dir_counts-at c =
-    let there = enter_there c.args.key c.args.rows _ c.requires c.first_of-at.ensures c.has_place.ensures c.if-has_place.true in
+pub offset_bounds-directory-at : goal.offset_bounds-directory-at
+offset_bounds-directory-at c =
+    let same = c.as_directory-before.ensures in
+    let there = enter_there c.args.key c.args.rows _ c.requires (at_of same c.args.key c.in-Ok.ensures.0) (has_of same c.args.key c.in-Ok.ensures.1) in
     search (rules, there, c.requires.room.1.1.0)
 
-pub bounds-dir_counts-at : goal.bounds-dir_counts-at
-bounds-dir_counts-at c =
-    let there = enter_there c.args.key c.args.rows _ c.requires c.first_of-at.ensures c.has_place.ensures c.if-has_place.true in
-    omega (arith, there, c.requires.room.1.1.0)
+pub bounds-directory-at : goal.bounds-directory-at
+bounds-directory-at c =
+    let same = c.as_directory-before.ensures in
+    let there = enter_there c.args.key c.args.rows _ c.requires (at_of same c.args.key c.in-Ok.ensures.0) (has_of same c.args.key c.in-Ok.ensures.1) in
+    omega (arith, c.requires.room.1.1.0)
 
-pub overflow_add-dir_counts : goal.overflow_add-dir_counts
-overflow_add-dir_counts c =
-    record {
-      fits = omega (arith, enter-count c.args.key c.args.rows _ c.requires c.first_of-at.ensures c.has_place.ensures c.if-has_place.true);
-    }
+pub overflow_add-directory : goal.overflow_add-directory
+overflow_add-directory c =
+    let same = c.as_directory-before.ensures in
+    record { fits = omega (arith, enter-count c.args.key c.args.rows _ c.requires (at_of same c.args.key c.in-Ok.ensures.0) (has_of same c.args.key c.in-Ok.ensures.1)) }
 
-pub offset_bounds-dir_counts-at-then-has_place : goal.offset_bounds-dir_counts-at-then-has_place
-offset_bounds-dir_counts-at-then-has_place c =
-    let there = enter_there c.args.key c.args.rows _ c.requires c.first_of-at.ensures c.has_place.ensures c.if-has_place.true in
-    search (rules, there, c.requires.room.1.1.0)
+pub bounds-directory-at-in-Ok : goal.bounds-directory-at-in-Ok
+bounds-directory-at-in-Ok c =
+    let same = c.as_directory-before.ensures in
+    let there = enter_there c.args.key c.args.rows _ c.requires (at_of same c.args.key c.in-Ok.ensures.0) (has_of same c.args.key c.in-Ok.ensures.1) in
+    omega (arith, c.requires.room.1.1.0)
 
-pub bounds-dir_counts-at-then-has_place : goal.bounds-dir_counts-at-then-has_place
-bounds-dir_counts-at-then-has_place c =
-    let there = enter_there c.args.key c.args.rows _ c.requires c.first_of-at.ensures c.has_place.ensures c.if-has_place.true in
-    omega (arith, there, c.requires.room.1.1.0)
+pub returns-in-Ok-clause-enters : goal.returns-in-Ok-clause-enters
+returns-in-Ok-clause-enters c =
+    let same = c.as_directory-before.ensures in
+    entered_there c.args.key c.args.rows _ c.requires (at_of same c.args.key c.in-Ok.ensures.0) (has_of same c.args.key c.in-Ok.ensures.1) c.move_up.ensures
 
-pub returns-then-has_place : goal.returns-then-has_place
-returns-then-has_place c =
-    entered_there c.args.key c.args.rows _ c.requires c.first_of-at.ensures c.has_place.ensures c.if-has_place.true
-    c.move_up.ensures
+pub raise-requires : goal.raise-requires
+raise-requires c =
+    let at = at_of c.as_directory-before.ensures c.args.key c.in-Err.ensures.0 in
+    let none = has_not c.as_directory-before.ensures c.args.key c.in-Err.ensures.1 in
+    (enter-most c.args.key c.args.rows _ c.requires at, omega (arith, enter-room c.args.key c.args.rows _ c.requires at none))
 
-pub move_up-requires-2 : goal.move_up-requires-2
-move_up-requires-2 c = record { fact_1 = c.requires.room.1.0; fact_2 = enter-small c.args.key c.args.rows _ c.requires c.first_of-at.ensures c.has_place.ensures }
+pub raise-requires-in-Err : goal.raise-requires-in-Err
+raise-requires-in-Err c =
+    let at = at_of c.as_directory-before.ensures c.args.key c.in-Err.ensures.0 in
+    let none = has_not c.as_directory-before.ensures c.args.key c.in-Err.ensures.1 in
+    (enter-most c.args.key c.args.rows _ c.requires at, omega (arith, enter-room c.args.key c.args.rows _ c.requires at none))
 
-pub raise_u64-requires : goal.raise_u64-requires
-raise_u64-requires c =
-    let f = c.first_of-at.ensures in
-    let h = c.has_place.ensures in
-    (enter-most c.args.key c.args.rows _ c.requires f h, omega (arith, enter-room c.args.key c.args.rows _ c.requires f h c.if-has_place.false))
+pub raise-requires-in-Err-2 : goal.raise-requires-in-Err-2
+raise-requires-in-Err-2 c =
+    let at = at_of c.as_directory-before.ensures c.args.key c.in-Err.ensures.0 in
+    let none = has_not c.as_directory-before.ensures c.args.key c.in-Err.ensures.1 in
+    (enter-most c.args.key c.args.rows _ c.requires at, omega (arith, enter-room c.args.key c.args.rows _ c.requires at none))
 
-pub raise_u64-requires-2 : goal.raise_u64-requires-2
-raise_u64-requires-2 c =
-    let f = c.first_of-at.ensures in
-    let h = c.has_place.ensures in
-    (enter-most c.args.key c.args.rows _ c.requires f h, omega (arith, enter-room c.args.key c.args.rows _ c.requires f h c.if-has_place.false, c.dir_firsts-2-1.given))
-
-pub raise_u64-requires-3 : goal.raise_u64-requires-3
-raise_u64-requires-3 c =
-    let f = c.first_of-at.ensures in
-    let h = c.has_place.ensures in
-    (enter-most c.args.key c.args.rows _ c.requires f h, omega (arith, enter-room c.args.key c.args.rows _ c.requires f h c.if-has_place.false))
-
-pub returns : goal.returns
-returns c =
-    entered_new_place c.args.key c.args.rows _ c.requires c.first_of-at.ensures c.has_place.ensures c.if-has_place.false
-    c.first_at-first.ensures
-    c.move_up-2.ensures
-    c.raise_u64.ensures
-    c.raise_u64-2.ensures
-    c.raise_u64-3.ensures
+pub returns-in-Err-clause-enters : goal.returns-in-Err-clause-enters
+returns-in-Err-clause-enters c =
+    let d = kept_mut c.args.directory.now in
+    let at = at_of c.as_directory-before.ensures c.args.key c.in-Err.ensures.0 in
+    let none = has_not c.as_directory-before.ensures c.args.key c.in-Err.ensures.1 in
+    let told : c.unwrap_or-first.result ≡ get_or (take d.used c.as_directory-before.result.firsts.now) c.in-Err.at c.args.rows = search rules in
+    let first = told ∙ ap (λ (x : Directory). get_or (take d.used x.firsts) c.in-Err.at c.args.rows) c.as_directory-before.ensures in
+    entered_new_place c.args.key c.args.rows _ c.requires at none first c.move_up-in-Err.ensures c.raise.ensures c.raise-in-Err.ensures c.raise-in-Err-2.ensures

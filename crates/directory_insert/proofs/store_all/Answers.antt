@@ -1,57 +1,47 @@
-use borrow.Author.Rules.{rules}
-use native.Mathlib.Omega.{arith}
-use Rattle.directory_insert.proofs.Marks.{both-start, both-lengths, both-places, both_takes, both_enters, both_again, both_end}
+-- `store_all` meets its contract: one more store, which makes a row or none.
+-- Assumes nothing.
+use Rattle.std.proofs.Common.{◌+◌, take, arith, refl, sym}
+use Rattle.table.specs.Rows.{put_in}
+use Rattle.table.specs.Lent.{lent_mut}
+use Rattle.directory.specs.Directory.{Directory}
+use Rattle.directory.specs.Lent.{kept_mut, SamePlaces}
+use Rattle.directory_insert.specs.Posts.{BecomesBoth}
+use Rattle.directory_insert.proofs.Marks.{both-start, both_takes, both_enters, both-more, both-same, both_end}
+use Rattle.directory_insert.proofs.store_all.Goals.{then-library-rows, else-library-rows}
 use Rattle.directory_insert.proofs.store_all.Goals as goal
 
-pub loop-i-init : goal.loop-i-init
-loop-i-init c = (search rules, both-start c.args.id.0 c.args.at c.args.into.now _ _ c.requires)
+pub loop-key-init : goal.loop-key-init
+loop-key-init c = record {
+  stores = both-start c.args.id.0 c.args.at c.args.into.now _ _ c.requires;
+  same_lists = (refl, refl, refl, refl, refl);
+  same_places = (refl, refl, refl);
+}
 
-pub put-count-requires : goal.put-count-requires
-put-count-requires c = both_takes c.args.id.0 c.args.at c.args.into.now _ _ c.requires c.loop-i.i c.loop-i.invariant.1 c.loop-i-test.true
+pub put-requires : goal.put-requires
+put-requires c = both_takes c.args.id.0 c.args.at c.args.into.now _ _ c.requires c.loop-key.key-index c.loop-key.invariant.stores c.loop-key-test.true
 
-pub note_row-places-requires : goal.note_row-places-requires
-note_row-places-requires c =
-    let taken = c.loop-i-test.true in
-    let t = both_takes c.args.id.0 c.args.at c.args.into.now _ _ c.requires c.loop-i.i c.loop-i.invariant.1 taken in
-    let long = (both-lengths c.args.id.0 c.args.at c.args.into.now _ _ c.requires c.loop-i.i c.loop-i.invariant.1).0 in
-    λ y. both_enters c.args.id.0 c.args.at c.args.into.now _ _ c.requires c.loop-i.i c.loop-i.invariant.1 taken c.put-count.ensures y (omega (arith, t.rows.room.0, long, c.well_formed.0.1))
+pub enter_row-requires : goal.enter_row-requires
+enter_row-requires c =
+    both_enters c.args.id.0 c.args.at c.args.into.now _ _ c.requires c.loop-key.key-index c.loop-key.invariant.stores c.loop-key-test.true c.put.ensures.puts
+    (λ e. c.if-library-rows.true (sym e)) (omega arith)
 
-pub overflow_add-i : goal.overflow_add-i
-overflow_add-i c = let taken = c.loop-i-test.true in record { fits = omega (arith, taken, c.well_formed.1.1.1.1.1.1.1.1.1.1.0.0) }
+pub loop-key-preserved : goal.loop-key-preserved
+loop-key-preserved c =
+    let i = c.loop-key.key-index in
+    let After = λ (d : Directory). BecomesBoth (put_in c.args.id.0 c.args.at (take (i + 1) c.args.into.now)) (lent_mut c.args.library.now) (kept_mut c.args.directory.now) (lent_mut c.put.new.self) d in
+    let stores : After (kept_mut c.if-library-rows.directory) = elim c.if-library-rows.branch [
+      | then-library-rows w ↦
+          rw w.directory-is
+          (both-more c.args.id.0 c.args.at c.args.into.now _ _ c.requires i c.loop-key.invariant.stores c.loop-key-test.true c.put.ensures.puts (λ e. w.if-library-rows.true (sym e)) w.enter_row.ensures.enters)
+      | else-library-rows w ↦
+          rw w.directory-is
+          (both-same c.args.id.0 c.args.at c.args.into.now _ _ c.requires i c.loop-key.invariant.stores c.loop-key-test.true c.put.ensures.puts (sym w.if-library-rows.false))
+    ] in
+    let places : SamePlaces c.args.directory.now c.if-library-rows.directory = elim c.if-library-rows.branch [
+      | then-library-rows w ↦ rw w.directory-is (cc, cc, cc)
+      | else-library-rows w ↦ rw w.directory-is c.loop-key.invariant.same_places
+    ] in
+    record { stores = stores; same_lists = (cc, cc, cc, cc, cc); same_places = places }
 
-pub loop-i-smaller : goal.loop-i-smaller
-loop-i-smaller c = let taken = c.loop-i-test.true in omega (arith, taken)
-
-pub loop-i-preserved : goal.loop-i-preserved
-loop-i-preserved c =
-    let taken = c.loop-i-test.true in (
-      omega (arith, taken),
-      both_again c.args.id.0 c.args.at c.args.into.now _ _ c.requires c.loop-i.i c.loop-i.invariant.1 taken c.put-count.ensures c.note_row-places.ensures,
-    )
-
-pub shape_of-keys : goal.shape_of-keys
-shape_of-keys c = (both-lengths c.args.id.0 c.args.at c.args.into.now _ _ c.requires c.loop-i.i c.loop-i.invariant.1).0
-
-pub shape_of-ids : goal.shape_of-ids
-shape_of-ids c = (both-lengths c.args.id.0 c.args.at c.args.into.now _ _ c.requires c.loop-i.i c.loop-i.invariant.1).1
-
-pub shape_of-xs : goal.shape_of-xs
-shape_of-xs c = (both-lengths c.args.id.0 c.args.at c.args.into.now _ _ c.requires c.loop-i.i c.loop-i.invariant.1).2
-
-pub shape_of-ys : goal.shape_of-ys
-shape_of-ys c = (both-lengths c.args.id.0 c.args.at c.args.into.now _ _ c.requires c.loop-i.i c.loop-i.invariant.1).3
-
-pub shape_of-zs : goal.shape_of-zs
-shape_of-zs c = (both-lengths c.args.id.0 c.args.at c.args.into.now _ _ c.requires c.loop-i.i c.loop-i.invariant.1).4
-
-pub shape_of-dir_keys : goal.shape_of-dir_keys
-shape_of-dir_keys c = (both-places c.args.id.0 c.args.at c.args.into.now _ _ c.requires c.loop-i.i c.loop-i.invariant.1).0
-
-pub shape_of-dir_firsts : goal.shape_of-dir_firsts
-shape_of-dir_firsts c = (both-places c.args.id.0 c.args.at c.args.into.now _ _ c.requires c.loop-i.i c.loop-i.invariant.1).1
-
-pub shape_of-dir_counts : goal.shape_of-dir_counts
-shape_of-dir_counts c = (both-places c.args.id.0 c.args.at c.args.into.now _ _ c.requires c.loop-i.i c.loop-i.invariant.1).2
-
-pub returns : goal.returns
-returns c = both_end c.args.id.0 c.args.at c.args.into.now _ _ c.requires c.loop-i.i c.loop-i.invariant.1 c.loop-i-test.false
+pub returns-clause-stores : goal.returns-clause-stores
+returns-clause-stores c = both_end c.args.id.0 c.args.at c.args.into.now _ _ c.requires c.loop-key.key-index c.loop-key.invariant.stores c.loop-key-test.false

@@ -1,18 +1,15 @@
--- `store_all` meets its contract. Invariant: the library and the directory are those that the first i stores make.
+-- `store_all` meets its contract. Invariant: the library and the directory are those that the first stores make.
 -- Assumes nothing.
-use Prim.Native.Nat.{◌-◌, ◌≤◌}
-use lib.ListN.{length, take}
+use Rattle.std.proofs.Common.{take}
 use Rattle.table.specs.Rows.{put_in}
-use Rattle.table.specs.Library.{library}
-use Rattle.directory.specs.Directory.{directory}
+use Rattle.table.specs.Lent.{lent_mut, SameLists}
+use Rattle.directory.specs.Lent.{kept_mut, SamePlaces}
 use Rattle.directory_insert.specs.Posts.{BecomesBoth}
 use Rattle.directory_insert.proofs.store_all.Given as goal
 
-abbrev pub invariant-loop-i : goal.invariant-loop-i
-invariant-loop-i l =
-    (l.i ≤ length l.into)
-    × BecomesBoth (put_in l.id.0 l.at (take l.i l.into)) (library l.initial.keys l.initial.ids l.initial.xs l.initial.ys l.initial.zs l.used) (directory l.initial.dir_keys l.initial.dir_firsts l.initial.dir_counts l.dir_used)
-    (library l.keys l.ids l.xs l.ys l.zs l.n) (directory l.dir_keys l.dir_firsts l.dir_counts l.places)
-
-abbrev pub decreases-loop-i : goal.decreases-loop-i
-decreases-loop-i l = length l.into - l.i
+abbrev pub invariant-loop-key : goal.invariant-loop-key
+invariant-loop-key l = record {
+  stores : BecomesBoth (put_in l.id.0 l.at (take l.key-index l.into)) (lent_mut l.fn.library) (kept_mut l.fn.directory) (lent_mut l.library) (kept_mut l.directory);
+  same_lists : SameLists l.fn.library l.library;
+  same_places : SamePlaces l.fn.directory l.directory;
+}

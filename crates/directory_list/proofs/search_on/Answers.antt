@@ -1,13 +1,13 @@
--- `directory_list::search_on` meets its contract. Assumes nothing.
-use Rattle.directory_list.proofs.Counts.{counted}
-use Rattle.directory_list.proofs.Answers.{turned_away, passes, same}
+use Rattle.std.proofs.Common.{sym}
+use Rattle.directory.proofs.Passing.{passing}
+use Rattle.directory_list.proofs.Answers.{turned_away, same}
 use Rattle.directory_list.proofs.search_on.Goals as goal
 
-pub returns-then-fault-ne0 : goal.returns-then-fault-ne0
-returns-then-fault-ne0 c = turned_away _ _ _ c.directory_fault-fault.ensures _ _ c.if-fault-ne0.true
+pub returns-in_err-counts : goal.returns-in_err-counts
+returns-in_err-counts c = turned_away _ _ _ _ _ c.in_err-counts.field-0.0 c.in_err-counts.ensures.tests c.from_residual.ensures
 
-pub search_checked_on-requires : goal.search_checked_on-requires
-search_checked_on-requires c = let p = passes _ _ _ c.directory_fault-fault.ensures c.if-fault-ne0.false in record { fact_1 = p.library-passes; fact_2 = counted p }
+pub search_checked_on-requires-clause-sound : goal.search_checked_on-requires-clause-sound
+search_checked_on-requires-clause-sound c = (passing _ _ _ (sym c.in_ok-counts.ensures.tests)).library-passes
 
 pub returns : goal.returns
-returns c = same _ _ _ c.directory_fault-fault.ensures c.if-fault-ne0.false _ c.search_checked_on.ensures
+returns c = same _ _ _ _ _ c.in_ok-counts.ensures.tests c.search_checked_on.ensures

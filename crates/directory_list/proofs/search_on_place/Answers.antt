@@ -1,13 +1,13 @@
--- `directory_list::search_on_place` meets its contract. Assumes nothing.
-use Rattle.directory_list.proofs.Counts.{counted}
-use Rattle.directory_list.proofs.Answers.{turned_away, passes, same}
+use Rattle.std.proofs.Common.{sym}
+use Rattle.directory.proofs.Passing.{passing}
+use Rattle.directory_list.proofs.Answers.{turned_away, same}
 use Rattle.directory_list.proofs.search_on_place.Goals as goal
 
-pub returns-then-refusal-ne0 : goal.returns-then-refusal-ne0
-returns-then-refusal-ne0 c = turned_away _ _ _ c.directory_fault-refusal.ensures _ _ c.if-refusal-ne0.true
+pub returns-in_err-counts : goal.returns-in_err-counts
+returns-in_err-counts c = turned_away _ _ _ _ _ c.in_err-counts.field-0.0 c.in_err-counts.ensures.tests c.from_residual.ensures
 
-pub search_checked_on_place-requires : goal.search_checked_on_place-requires
-search_checked_on_place-requires c = let p = passes _ _ _ c.directory_fault-refusal.ensures c.if-refusal-ne0.false in record { fact_1 = p.library-passes; fact_2 = counted p }
+pub search_checked_on_place-requires-clause-sound : goal.search_checked_on_place-requires-clause-sound
+search_checked_on_place-requires-clause-sound c = (passing _ _ _ (sym c.in_ok-counts.ensures.tests)).library-passes
 
 pub returns : goal.returns
-returns c = same _ _ _ c.directory_fault-refusal.ensures c.if-refusal-ne0.false _ c.search_checked_on_place.ensures
+returns c = same _ _ _ _ _ c.in_ok-counts.ensures.tests c.search_checked_on_place.ensures

@@ -1,46 +1,56 @@
 -- `find_through` meets its contract: no place is found and no row is near, or the rows of the place found are walked.
 -- Assumes nothing.
-use mathlib.Core.Path.{◌∙◌}
+use Rattle.std.proofs.Common.{sym, ap, ◌∙◌, arith, length-take-le}
 use Rattle.geometry.specs.Position.{coords}
-use Rattle.table.specs.Library.{library}
-use Rattle.directory.specs.Directory.{directory}
-use Rattle.directory_search.proofs.Answers.{passed_sheet, passed_keys, passed_nowhere, passed_readable, passed_order, passed_from, passed_near}
+use Rattle.search.specs.Search.{id_of}
+use Rattle.table.specs.Lent.{lent}
+use Rattle.directory.specs.Lent.{kept}
+use Rattle.directory.specs.Calls.{look_of, place_told}
+use Rattle.directory.proofs.Passing.{passing, place-room}
+use Rattle.directory_search.proofs.Answers.{passed_sheet, passed_keys, passed_nowhere, passed_there, passed_small, passed_order, passed_from, passed_near}
 use Rattle.directory_search.proofs.find_through.Goals as goal
 
-pub find_place-looked-requires : goal.find_place-looked-requires
-find_place-looked-requires c = passed_keys c.args.sheet _ _ c.requires.dir_used_value
+pub slice_bounds-find_place-end : goal.slice_bounds-find_place-end
+slice_bounds-find_place-end c = sym (length-take-le _ _ (passed_keys c.args.sheet _ _ c.requires.passing))
 
-pub returns-in_default : goal.returns-in_default
-returns-in_default c =
+pub returns-in_err-place : goal.returns-in_err-place
+returns-in_err-place c =
     let a = c.args in
-    passed_nowhere a.sheet (library a.keys.now a.ids.now a.xs.now a.ys.now a.zs.now a.used) (directory a.dir_keys.now a.dir_firsts.now a.dir_counts.now a.dir_used)
-    c.requires.dir_used_value a.key c.find_place-looked.result c.find_place-looked.ensures
-    c.in_default.not-At (coords a.sheet.ndim a.x) c.requires.x_value
+    ap id_of c.from_residual.ensures
+    ∙ passed_nowhere a.sheet (lent a.library) (kept a.directory) c.requires.passing a.key (look_of c.find_place.result) c.find_place.ensures
+    (ap place_told c.in_err-place.was) (coords a.sheet.ndim a.x) c.requires.inside
 
-pub rows_at-rows-requires : goal.rows_at-rows-requires
-rows_at-rows-requires c =
+pub entry-entry-requires : goal.entry-entry-requires
+entry-entry-requires c =
     let a = c.args in
-    passed_readable a.sheet (library a.keys.now a.ids.now a.xs.now a.ys.now a.zs.now a.used) (directory a.dir_keys.now a.dir_firsts.now a.dir_counts.now a.dir_used)
-    c.requires.dir_used_value a.key c.find_place-looked.result c.find_place-looked.ensures c.in-At.is
+    let p = passed_there a.sheet (lent a.library) (kept a.directory) c.requires.passing a.key (look_of c.find_place.result) c.find_place.ensures (ap place_told c.in_ok-place.was) in
+    let room = place-room (kept a.directory) (passing a.sheet (lent a.library) (kept a.directory) c.requires.passing).places-sound in
+    (omega (arith, p, room.0), (omega (arith, p, room.1.0), (omega (arith, p, room.1.1.0), tt)))
 
-pub find_from-requires : goal.find_from-requires
-find_from-requires c =
+pub end_of-requires : goal.end_of-requires
+end_of-requires c =
     let a = c.args in
-    let l = library a.keys.now a.ids.now a.xs.now a.ys.now a.zs.now a.used in
-    let d = directory a.dir_keys.now a.dir_firsts.now a.dir_counts.now a.dir_used in
-    let p = c.requires.dir_used_value in
-    record {
-      ndim_value_1 = (passed_sheet a.sheet l d p).axes;
-      ndim_value_2 = c.requires.x_value;
-      ndim_value_3 = passed_order a.sheet l d p a.key c.find_place-looked.result c.find_place-looked.ensures c.in-At.is c.rows_at-rows.ensures;
-      from_value = passed_from a.sheet l d p a.key c.find_place-looked.result c.find_place-looked.ensures c.in-At.is c.rows_at-rows.ensures;
-    }
+    rw c.entry-entry.ensures
+    (passed_small a.sheet (lent a.library) (kept a.directory) c.requires.passing a.key (look_of c.find_place.result) c.find_place.ensures (ap place_told c.in_ok-place.was))
+
+pub find_from-requires-clause-axes : goal.find_from-requires-clause-axes
+find_from-requires-clause-axes c = (passed_sheet c.args.sheet (lent c.args.library) (kept c.args.directory) c.requires.passing).axes
+
+pub find_from-requires-clause-ordered : goal.find_from-requires-clause-ordered
+find_from-requires-clause-ordered c =
+    let a = c.args in
+    passed_order a.sheet (lent a.library) (kept a.directory) c.requires.passing a.key (look_of c.find_place.result) c.find_place.ensures (ap place_told c.in_ok-place.was) {from = c.entry-entry.result.first}
+    (rw c.entry-entry.ensures) (c.end_of.ensures ∙ rw c.entry-entry.ensures)
+
+pub find_from-requires-clause-first : goal.find_from-requires-clause-first
+find_from-requires-clause-first c =
+    let a = c.args in
+    passed_from a.sheet (lent a.library) (kept a.directory) c.requires.passing a.key (look_of c.find_place.result) c.find_place.ensures (ap place_told c.in_ok-place.was) {from = c.entry-entry.result.first}
+    (rw c.entry-entry.ensures) (c.end_of.ensures ∙ rw c.entry-entry.ensures)
 
 pub returns : goal.returns
 returns c =
     let a = c.args in
-    let l = library a.keys.now a.ids.now a.xs.now a.ys.now a.zs.now a.used in
-    let d = directory a.dir_keys.now a.dir_firsts.now a.dir_counts.now a.dir_used in
     c.find_from.ensures
-    ∙ passed_near a.sheet l d c.requires.dir_used_value a.key c.find_place-looked.result c.find_place-looked.ensures c.in-At.is
-    c.rows_at-rows.ensures (coords a.sheet.ndim a.x) c.requires.x_value
+    ∙ passed_near a.sheet (lent a.library) (kept a.directory) c.requires.passing a.key (look_of c.find_place.result) c.find_place.ensures (ap place_told c.in_ok-place.was) {from = c.entry-entry.result.first}
+    (rw c.entry-entry.ensures) (c.end_of.ensures ∙ rw c.entry-entry.ensures) (coords a.sheet.ndim a.x) c.requires.inside

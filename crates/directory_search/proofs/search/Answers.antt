@@ -1,78 +1,70 @@
--- `search` meets its contract: a law for each way out.
--- Assumes nothing.
-use mathlib.Core.Path.{sym, ◌∙◌}
-use Rattle.table.specs.Library.{library}
+-- `search` meets its contract: a law for each way out. In each answer `p` says that the library and the directory pass, and `k` that
+-- the position does. Assumes nothing.
+use Rattle.std.proofs.Common.{◌≡◌, sym, ap, ◌∙◌}
+use Rattle.basics.specs.declared.Refusal.TheVariants.{Ratio}
+use Rattle.basics.specs.Refusals.{success}
+use Rattle.basics.proofs.Answers.{raised_answer}
+use Rattle.table.specs.Lent.{lent}
 use Rattle.rows.proofs.Answers.{called_at, called_key, called_container, called_exceeds}
+use Rattle.search.specs.Search.{id_of}
 use Rattle.search.proofs.Answers.{search_exceeds, search_finds}
-use Rattle.directory.specs.Directory.{directory}
-use Rattle.directory.proofs.Passing.{directory-numbered}
+use Rattle.directory.specs.Lent.{kept}
 use Rattle.directory_search.proofs.Answers.{asked-first, asked-past, passed_sheet, passed_called, passed_turned}
 use Rattle.directory_search.proofs.search.Goals as goal
 
-pub returns-then-damage-ne0 : goal.returns-then-damage-ne0
-returns-then-damage-ne0 c = asked-first c.args.sheet _ _ _ c.directory_fault-damage.ensures c.if-damage-ne0.true
+pub returns-in_err-directory_fault : goal.returns-in_err-directory_fault
+returns-in_err-directory_fault c =
+    raised_answer id_of c.in_err-directory_fault.field-0.0 c.from_residual.result c.from_residual.ensures
+    ∙ asked-first c.args.sheet _ _ _ (sym c.in_err-directory_fault.ensures)
 
--- in each answer, `p`: the library and the directory pass
-pub position_fault-fault-requires : goal.position_fault-fault-requires
-position_fault-fault-requires c =
-    let a = c.args in
-    let l = library a.keys.now a.ids.now a.xs.now a.ys.now a.zs.now a.used in
-    let d = directory a.dir_keys.now a.dir_firsts.now a.dir_counts.now a.dir_used in
-    let p = directory-numbered a.sheet l d (sym c.if-damage-ne0.false ∙ c.directory_fault-damage.ensures) in
-    (passed_sheet a.sheet l d p).axes
+pub position_fault-requires : goal.position_fault-requires
+position_fault-requires c = (passed_sheet c.args.sheet (lent c.args.library) (kept c.args.directory) (sym c.in_ok-directory_fault.ensures)).axes
 
-pub returns-then-fault-ne0 : goal.returns-then-fault-ne0
-returns-then-fault-ne0 c =
+pub returns-in_err-position_fault : goal.returns-in_err-position_fault
+returns-in_err-position_fault c =
     let a = c.args in
-    let l = library a.keys.now a.ids.now a.xs.now a.ys.now a.zs.now a.used in
-    let d = directory a.dir_keys.now a.dir_firsts.now a.dir_counts.now a.dir_used in
-    let p = directory-numbered a.sheet l d (sym c.if-damage-ne0.false ∙ c.directory_fault-damage.ensures) in
-    passed_turned a.sheet l d p a.x.now c.position_fault-fault.ensures c.if-fault-ne0.true
-    ∙ asked-past a.sheet l d _ p
+    let p = sym c.in_ok-directory_fault.ensures in
+    raised_answer id_of c.in_err-position_fault.field-0.0 c.from_residual-in_err-position_fault.result c.from_residual-in_err-position_fault.ensures
+    ∙ passed_turned a.sheet (lent a.library) (kept a.directory) p a.x.now (sym c.in_err-position_fault.ensures)
+    ∙ asked-past a.sheet (lent a.library) (kept a.directory) _ p
+
+pub invariant_of-calc_container_key : goal.invariant_of-calc_container_key
+invariant_of-calc_container_key c = record { two_or_three = (passed_sheet c.args.sheet (lent c.args.library) (kept c.args.directory) (sym c.in_ok-directory_fault.ensures)).axes }
 
 pub calc_container_key-place-requires : goal.calc_container_key-place-requires
-calc_container_key-place-requires c =
-    let a = c.args in
-    let l = library a.keys.now a.ids.now a.xs.now a.ys.now a.zs.now a.used in
-    let d = directory a.dir_keys.now a.dir_firsts.now a.dir_counts.now a.dir_used in
-    let p = directory-numbered a.sheet l d (sym c.if-damage-ne0.false ∙ c.directory_fault-damage.ensures) in
-    let sheet = passed_sheet a.sheet l d p in
-    record { fact_1 = sheet.axes; fact_2 = sheet.divisions }
+calc_container_key-place-requires c = record { divisions = (passed_sheet c.args.sheet (lent c.args.library) (kept c.args.directory) (sym c.in_ok-directory_fault.ensures)).divisions }
 
--- and `k`: so does the position
-pub returns-in_default : goal.returns-in_default
-returns-in_default c =
+pub returns-in_err-key : goal.returns-in_err-key
+returns-in_err-key c =
     let a = c.args in
     let s = a.sheet in
-    let l = library a.keys.now a.ids.now a.xs.now a.ys.now a.zs.now a.used in
-    let d = directory a.dir_keys.now a.dir_firsts.now a.dir_counts.now a.dir_used in
-    let p = directory-numbered s l d (sym c.if-damage-ne0.false ∙ c.directory_fault-damage.ensures) in
-    let k = passed_called s l d p a.x.now (sym c.if-fault-ne0.false ∙ c.position_fault-fault.ensures) in
-    search_exceeds s l _ k (called_exceeds s l _ k c.new-at.ensures (sym c.calc_container_key-place.ensures ∙ c.in_default.is))
+    let l = lent a.library in
+    let d = kept a.directory in
+    let p = sym c.in_ok-directory_fault.ensures in
+    let k = passed_called s l d p a.x.now (sym c.in_ok-position_fault.ensures) in
+    let exceeds = c.in_err-key.ensures.ok_part in
+    let value = rw exceeds at c.in_err-key.ensures.value in
+    let ratio : c.in_err-key.field-0.0 ≡ Ratio = cc in
+    raised_answer id_of Ratio c.from_residual-in_err-key.result (rw ratio at c.from_residual-in_err-key.ensures)
+    ∙ search_exceeds s l _ k (called_exceeds s l _ k c.new-at.ensures (sym c.calc_container_key-place.ensures ∙ exceeds))
     ∙ asked-past s l d _ p
 
-pub find_through-requires : goal.find_through-requires
-find_through-requires c =
+pub find_through-requires-clause-inside : goal.find_through-requires-clause-inside
+find_through-requires-clause-inside c =
     let a = c.args in
-    let s = a.sheet in
-    let l = library a.keys.now a.ids.now a.xs.now a.ys.now a.zs.now a.used in
-    let d = directory a.dir_keys.now a.dir_firsts.now a.dir_counts.now a.dir_used in
-    let p = directory-numbered s l d (sym c.if-damage-ne0.false ∙ c.directory_fault-damage.ensures) in
-    let k = passed_called s l d p a.x.now (sym c.if-fault-ne0.false ∙ c.position_fault-fault.ensures) in
-    record {
-      dir_used_value = p;
-      x_value = called_container s l _ k c.new-at.ensures (sym c.calc_container_key-place.ensures ∙ c.in-Key.is);
-    }
+    let p = sym c.in_ok-directory_fault.ensures in
+    let k = passed_called a.sheet (lent a.library) (kept a.directory) p a.x.now (sym c.in_ok-position_fault.ensures) in
+    called_container a.sheet (lent a.library) _ k c.new-at.ensures (sym c.calc_container_key-place.ensures ∙ c.in_ok-key.ensures.ok_part)
 
 pub returns : goal.returns
 returns c =
     let a = c.args in
     let s = a.sheet in
-    let l = library a.keys.now a.ids.now a.xs.now a.ys.now a.zs.now a.used in
-    let d = directory a.dir_keys.now a.dir_firsts.now a.dir_counts.now a.dir_used in
-    let p = directory-numbered s l d (sym c.if-damage-ne0.false ∙ c.directory_fault-damage.ensures) in
-    let k = passed_called s l d p a.x.now (sym c.if-fault-ne0.false ∙ c.position_fault-fault.ensures) in
-    c.find_through.ensures
+    let l = lent a.library in
+    let d = kept a.directory in
+    let p = sym c.in_ok-directory_fault.ensures in
+    let k = passed_called s l d p a.x.now (sym c.in_ok-position_fault.ensures) in
+    ap success c.find_through.ensures
     ∙ search_finds s l _ k (called_at s l _ k c.new-at.ensures)
-    (called_key s l _ k c.new-at.ensures (sym c.calc_container_key-place.ensures ∙ c.in-Key.is)).0
+    (called_key s l _ k c.new-at.ensures (sym c.calc_container_key-place.ensures ∙ c.in_ok-key.ensures.ok_part)).0
     ∙ asked-past s l d _ p

@@ -1,45 +1,52 @@
-use native.Mathlib.Omega.{arith}
-use Prim.Native.Nat.{◌+◌}
-use Rattle.strike.proofs.Removal.{entry}
-use Rattle.directory_strike.proofs.Pass.{quiet-later, thinning_start, thinning_room, enough, left_most, thinning_next, thinning_end}
+-- `close_places` meets its contract.
+-- Assumes nothing.
+use Rattle.std.proofs.Common.{ℕ, ◌≡◌, ◌+◌, ◌∙◌, arith, get_or, take, drop, refl, ap}
+use Rattle.directory.specs.declared.Entry.{Entry}
+use Rattle.directory.specs.Entries.{entry}
+use Rattle.directory.specs.Directory.{Directory, entry_at}
+use Rattle.directory.specs.Lent.{kept_mut}
+use Rattle.directory.specs.Posts.{placed}
+use Rattle.directory_strike.specs.Posts.{others}
+use Rattle.directory_strike.proofs.Pass.{thinning_start, enough, left_most, thinning-next, thinning_end}
 use Rattle.directory_strike.proofs.close_places.Goals as goal
 
 pub loop-i-init : goal.loop-i-init
-loop-i-init c = (thinning_start _ c.requires, c.requires.quiet)
+loop-i-init c = record { thinning = thinning_start _ c.requires; quiet = c.requires.quiet; same_places = (refl, refl, refl) }
 
-pub bounds-dir_counts-i : goal.bounds-dir_counts-i
-bounds-dir_counts-i c = omega (arith, thinning_room c.loop-i.invariant.0 (c.loop-i.i + 1) (omega (arith, c.loop-i-test.true)) c.requires.room)
-
-pub rows_left-left-requires : goal.rows_left-left-requires
-rows_left-left-requires c = (omega (arith, enough c.loop-i.invariant.0 c.loop-i-test.true), c.loop-i.invariant.1)
-
-pub keep_place-at-requires : goal.keep_place-at-requires
-keep_place-at-requires c =
-    let g = c.loop-i.invariant.0 in
-    (g.lower, omega (arith, c.loop-i-test.true, c.requires.room.0), thinning_room g (c.loop-i.i + 1) (omega (arith, c.loop-i-test.true)) c.requires.room)
+pub rows_left-left-requires-clause-within : goal.rows_left-left-requires-clause-within
+rows_left-left-requires-clause-within c =
+    let here = c.entry-entry.ensures ∙ ap (λ (d : Directory). entry_at d c.loop-i.i) c.as_directory.ensures in
+    omega (arith, ap (λ (e : Entry). e.count) here, enough c.loop-i.invariant.thinning c.loop-i-test.true)
 
 pub overflow_add-row : goal.overflow_add-row
-overflow_add-row c = record { fits = omega (arith, enough c.loop-i.invariant.0 c.loop-i-test.true) }
+overflow_add-row c =
+    let here = c.entry-entry.ensures ∙ ap (λ (d : Directory). entry_at d c.loop-i.i) c.as_directory.ensures in
+    record { fits = omega (arith, ap (λ (e : Entry). e.count) here, enough c.loop-i.invariant.thinning c.loop-i-test.true) }
 
 pub overflow_add-first : goal.overflow_add-first
 overflow_add-first c =
-    let g = c.loop-i.invariant.0 in
-    record { fits = omega (arith, g.fewer, enough g c.loop-i-test.true, left_most g c.loop-i-test.true c.rows_left-left.ensures) }
+    let g = c.loop-i.invariant.thinning in
+    let here = c.entry-entry.ensures ∙ ap (λ (d : Directory). entry_at d c.loop-i.i) c.as_directory.ensures in
+    let left = c.rows_left-left.ensures ∙ ap (λ (e : Entry). others c.args.id (take e.count (drop c.loop-i.row c.args.ids.now))) here in
+    record { fits = omega (arith, g.fewer, enough g c.loop-i-test.true, left_most g c.loop-i-test.true left) }
 
-pub next_from-next-requires : goal.next_from-next-requires
-next_from-next-requires c = (c.requires.used-are, quiet-later (omega arith) c.loop-i.invariant.1)
+pub next_from-next-requires-clause-within : goal.next_from-next-requires-clause-within
+next_from-next-requires-clause-within c =
+    let here = c.entry-entry.ensures ∙ ap (λ (d : Directory). entry_at d c.loop-i.i) c.as_directory.ensures in
+    omega (arith, ap (λ (e : Entry). e.count) here, enough c.loop-i.invariant.thinning c.loop-i-test.true)
 
 pub loop-i-preserved : goal.loop-i-preserved
-loop-i-preserved c = (thinning_next c.loop-i.invariant.0 c.loop-i-test.true c.rows_left-left.ensures c.requires.room c.keep_place-at.ensures, c.next_from-next.ensures)
+loop-i-preserved c =
+    let now = kept_mut c.loop-i.directory in
+    let here = c.entry-entry.ensures ∙ ap (λ (d : Directory). entry_at d c.loop-i.i) c.as_directory.ensures in
+    let left = c.rows_left-left.ensures ∙ ap (λ (e : Entry). others c.args.id (take e.count (drop c.loop-i.row c.args.ids.now))) here in
+    let moved = c.write_entry.ensures.writes ∙ ap (λ (e : Entry). placed c.loop-i.at (entry e.key c.loop-i.first c.rows_left-left.result) now) here in
+    let count : c.entry-entry.result.count ≡ get_or now.counts c.loop-i.i 0 = ap (λ (e : Entry). e.count) here in
+    record {
+      thinning = rw count (thinning-next c.loop-i.invariant.thinning c.loop-i-test.true left c.requires.room moved (ap (λ (n : ℕ). c.loop-i.at + n) c.from-at.ensures));
+      quiet = c.next_from-next.ensures;
+      same_places = (cc, cc, cc);
+    }
 
-pub shape_of-dir_keys : goal.shape_of-dir_keys
-shape_of-dir_keys c = entry 0 c.loop-i.invariant.0.lengths-are
-
-pub shape_of-dir_firsts : goal.shape_of-dir_firsts
-shape_of-dir_firsts c = entry 1 c.loop-i.invariant.0.lengths-are
-
-pub shape_of-dir_counts : goal.shape_of-dir_counts
-shape_of-dir_counts c = entry 2 c.loop-i.invariant.0.lengths-are
-
-pub returns : goal.returns
-returns c = thinning_end c.loop-i.invariant.0 c.loop-i-test.false c.requires.room
+pub returns-clause-closes : goal.returns-clause-closes
+returns-clause-closes c = thinning_end c.loop-i.invariant.thinning c.loop-i-test.false c.requires.room

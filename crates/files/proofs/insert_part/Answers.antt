@@ -1,12 +1,12 @@
--- The bytes are those that were read.
--- Assumes nothing.
-use Rattle.table.specs.Library.{library}
-use Rattle.files.proofs.Parts.{part}
+-- The bytes are those that were read. Assumes nothing.
+use mathlib.Core.Option.{some}
+use Rattle.table.specs.Lent.{lent_mut}
+use Rattle.files.proofs.Parts.{raised, part}
 use Rattle.files.proofs.insert_part.Goals as goal
 
-pub returns : goal.returns
-returns g c =
-    let a = c.args in
-    let w = c.insert_records-answer.new in
-    part a.width a.sheet (library a.keys.now a.ids.now a.xs.now a.ys.now a.zs.now a.used) _ _ _
-    (library w.keys w.ids w.xs w.ys w.zs) c.insert_records-answer.result c.part_of.result c.insert_records-answer.ensures c.part_of.ensures
+pub returns-in_err-insert_records-clause-read : goal.returns-in_err-insert_records-clause-read
+returns-in_err-insert_records-clause-read g c =
+    rw (raised c.in_err-insert_records.field-0.0 c.from_residual.result c.from_residual.ensures) (record { file = some _; is = c.in_err-insert_records.ensures.inserts })
+
+pub returns-clause-read : goal.returns-clause-read
+returns-clause-read g c = let a = c.args in part a.width a.sheet (lent_mut a.library.now) _ _ _ c.in_ok-insert_records.ensures.inserts

@@ -1,37 +1,25 @@
--- A part after the parts before it.
--- Assumes nothing.
+-- A part after the parts before it. Assumes nothing.
 use mathlib.Core.Path.{refl}
-use mathlib.Core.Option.{none}
-use Rattle.table.specs.Library.{library}
-use Rattle.files.proofs.Parts.{start, more, last, stopped, ended}
+use Rattle.table.specs.Lent.{lent_mut}
+use Rattle.files.proofs.Parts.{raised, start, more, stopped, ended}
 use Rattle.files.proofs.insert_parts.Goals as goal
 
-pub loop-turns-init : goal.loop-turns-init
-loop-turns-init g c = let a = c.args in start a.width a.sheet (library a.keys.now a.ids.now a.xs.now a.ys.now a.zs.now 0)
+pub loop-init : goal.loop-init
+loop-init g c = let a = c.args in (start a.width a.sheet (lent_mut a.library.now), (refl, refl, refl, refl, refl))
 
-pub returns-in-Last : goal.returns-in-Last
-returns-in-Last g c =
+pub returns-in_err-part-clause-read : goal.returns-in_err-part-clause-read
+returns-in_err-part-clause-read g c =
     let a = c.args in
-    let w = c.insert_part-part.new in
-    let lists = library w.keys w.ids w.xs w.ys w.zs in
-    let l = library a.keys.now a.ids.now a.xs.now a.ys.now a.zs.now 0 in
-    ended a.width a.sheet l lists c.in-Last.rows
-    (last a.width a.sheet c.requires l c.loop-turns.invariant lists c.insert_part-part.result c.insert_part-part.ensures c.in-Last.rows c.in-Last.is)
-    refl _ _ c.marks_answer.result c.marks_answer.ensures
+    rw (raised c.in_err-part.field-0.0 c.from_residual.result c.from_residual.ensures)
+    (stopped a.width a.sheet c.requires (lent_mut a.library.now) c.loop.invariant.0 _ c.in_err-part.ensures.read)
 
-pub returns-in-Refused : goal.returns-in-Refused
-returns-in-Refused g c =
+pub returns-then-eq-clause-read : goal.returns-then-eq-clause-read
+returns-then-eq-clause-read g c =
     let a = c.args in
-    let w = c.insert_part-part.new in
-    stopped a.width a.sheet c.requires (library a.keys.now a.ids.now a.xs.now a.ys.now a.zs.now 0) c.loop-turns.invariant
-    (library w.keys w.ids w.xs w.ys w.zs) c.insert_part-part.result c.insert_part-part.ensures c.in-Refused.number c.in-Refused.is
+    ended a.width a.sheet (lent_mut a.library.now) (lent_mut c.insert_part.new.library)
+    (more a.width a.sheet c.requires (lent_mut a.library.now) c.loop.invariant.0 c.in_ok-part.ensures.read) _ _ c.marks_answer.result c.marks_answer.ensures
 
-pub loop-turns-preserved : goal.loop-turns-preserved
-loop-turns-preserved g c =
+pub loop-preserved : goal.loop-preserved
+loop-preserved g c =
     let a = c.args in
-    let w = c.insert_part-part.new in
-    more a.width a.sheet c.requires (library a.keys.now a.ids.now a.xs.now a.ys.now a.zs.now 0) c.loop-turns.invariant
-    (library w.keys w.ids w.xs w.ys w.zs) c.insert_part-part.result c.insert_part-part.ensures c.in-More.rows c.in-More.is
-
-pub returns : goal.returns
-returns g c = record { file = none; is = refl }
+    (more a.width a.sheet c.requires (lent_mut a.library.now) c.loop.invariant.0 c.in_ok-part.ensures.read, (cc, cc, cc, cc, cc))

@@ -1,11 +1,7 @@
--- Invariant: the library is the one that the parts read so far leave. The measure is the number of turns that are left.
--- Assumes nothing.
-use Rattle.table.specs.Library.{library}
+-- Invariant: the library is the one that the parts read so far leave. Assumes nothing.
+use Rattle.table.specs.Lent.{lent_mut, SameLists}
 use Rattle.files.specs.Read.{MoreRead}
 use Rattle.files.proofs.insert_parts.Given as goal
 
-abbrev pub invariant-loop-turns : goal.invariant-loop-turns
-invariant-loop-turns g l = MoreRead l.width l.sheet (library l.initial.keys l.initial.ids l.initial.xs l.initial.ys l.initial.zs 0) l.used (library l.keys l.ids l.xs l.ys l.zs l.used)
-
-abbrev pub decreases-loop-turns : goal.decreases-loop-turns
-decreases-loop-turns g l = l.turns
+abbrev pub invariant-loop : goal.invariant-loop
+invariant-loop g l = MoreRead l.width l.sheet (lent_mut l.fn.library) (lent_mut l.library) × SameLists l.fn.library l.library

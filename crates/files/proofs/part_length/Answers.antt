@@ -11,8 +11,8 @@ overflow_mul-result c = omega (arith, div-mul-le_self 65536 c.args.width)
 
 pub returns-then-width-eq0 : goal.returns-then-width-eq0
 unfolding part_length
-returns-then-width-eq0 c = record { fact_1 = rw c.if-width-eq0.true; fact_2 = omega arith }
+returns-then-width-eq0 c = record { value = rw c.if-width-eq0.true; most = omega arith }
 
 pub returns-else-width-eq0 : goal.returns-else-width-eq0
 unfolding part_length
-returns-else-width-eq0 c = record { fact_1 = refl; fact_2 = div-mul-le_self 65536 c.args.width }
+returns-else-width-eq0 c = record { value = refl; most = div-mul-le_self 65536 c.args.width }

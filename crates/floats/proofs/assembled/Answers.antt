@@ -3,8 +3,8 @@ use Rattle.std.proofs.Common.{arith}
 use Rattle.floats.proofs.Patterns.{shifted, at_either}
 use Rattle.floats.proofs.assembled.Goals as goal
 
-pub nearest-q-requires : goal.nearest-q-requires
-nearest-q-requires c = let s = shifted c.args.a c.args.h c.requires.fact_1 c.requires.fact_2 in record { fact_1 = s.0; fact_2 = s.1; fact_3 = omega arith }
+pub invariant_of-nearest : goal.invariant_of-nearest
+invariant_of-nearest c = let a = c.args.a in let s = shifted a.digits c.args.h a.from_one a.below_two in record { from_one = s.0; below_four = s.1; finite = omega arith }
 
 pub returns : goal.returns
-returns c = at_either c.args.a c.args.h c.nearest-q.result c.requires.fact_1 c.requires.fact_2 c.requires.fact_3 c.requires.fact_4 c.nearest-q.ensures
+returns c = let a = c.args.a in at_either a.digits c.args.h c.nearest-q.result a.from_one a.below_two c.requires.least c.requires.largest c.nearest-q.ensures

@@ -1,9 +1,7 @@
--- `floats::root` meets its contract.
+-- The turns left are those of 53 that the counter has not made.
+use Rattle.std.proofs.Common.{◌-◌}
 use Rattle.floats.proofs.Steps.{Turns}
 use Rattle.floats.proofs.root.Given as goal
 
-abbrev pub invariant-loop-i : goal.invariant-loop-i
-invariant-loop-i l = Turns l.a l.w l.r l.rest l.i
-
-abbrev pub decreases-loop-i : goal.decreases-loop-i
-decreases-loop-i l = l.i
+abbrev pub invariant-loop : goal.invariant-loop
+invariant-loop l = Turns l.fn.m.units l.w l.r l.rest (53 - l.counter)

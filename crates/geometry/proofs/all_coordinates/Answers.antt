@@ -1,14 +1,10 @@
-use Rattle.std.proofs.Common.{refl, sym}
-use lib.Ieee.{nan}
-use Rattle.basics.proofs.Walks.{all_join, all-joined}
+-- `geometry::all_coordinates` meets its contract. Assumes nothing.
+use Rattle.std.proofs.Common.{true, ◌&&◌, ◌∙◌, rules, Bool, Float}
+use Rattle.std.proofs.lemmas.Iterator.{YieldsList-from_slice}
+use Rattle.std.proofs.lemmas.Iterator.Consumers.{fold_from_yields_List}
 use Rattle.geometry.specs.Position.{coordinate}
+use Rattle.geometry.proofs.Axes.{every_from_left}
 use Rattle.geometry.proofs.all_coordinates.Goals as goal
 
-pub loop-i-init : goal.loop-i-init
-loop-i-init c = refl
-
-pub loop-i-preserved : goal.loop-i-preserved
-loop-i-preserved c = let s = c.args in let l = c.loop-i in rw c.is_coordinate-ok.ensures (all_join coordinate s.x.now l.i l.ok l.invariant nan c.loop-i-test.true)
-
 pub returns : goal.returns
-returns c = let s = c.args in let l = c.loop-i in sym (all-joined coordinate s.x.now l.i l.ok l.invariant c.loop-i-test.false)
+returns c = fold_from_yields_List _ (λ (ok : Bool) (v : Float). ok && coordinate v) true c.fold.result c.fold.ensures.ran (YieldsList-from_slice c.args.x.now cc) (λ a x b q. search rules) ∙ every_from_left coordinate true c.args.x.now

@@ -26,19 +26,19 @@ small ndiv pivot h p =
     below h k = omega arith
 
 pub overflow_mul-result : goal.overflow_mul-result
-overflow_mul-result c = let b = small c.args.ndiv c.args.pivot c.requires.fact_1 c.requires.fact_2 in omega (arith, two-small b.j b.x)
+overflow_mul-result c = let b = small c.args.ndiv c.args.pivot c.requires.divisions c.requires.in_grid in omega (arith, two-small b.j b.x)
 
 pub overflow_add-result : goal.overflow_add-result
-overflow_add-result c = let b = small c.args.ndiv c.args.pivot c.requires.fact_1 c.requires.fact_2 in omega (arith, two-small b.j b.x, b.i)
+overflow_add-result c = let b = small c.args.ndiv c.args.pivot c.requires.divisions c.requires.in_grid in omega (arith, two-small b.j b.x, b.i)
 
 pub overflow_mul-result-2 : goal.overflow_mul-result-2
-overflow_mul-result-2 c = let b = small c.args.ndiv c.args.pivot c.requires.fact_1 c.requires.fact_2 in omega (arith, two-small b.k b.x)
+overflow_mul-result-2 c = let b = small c.args.ndiv c.args.pivot c.requires.divisions c.requires.in_grid in omega (arith, two-small b.k b.x)
 
 pub overflow_mul-result-3 : goal.overflow_mul-result-3
-overflow_mul-result-3 c = let b = small c.args.ndiv c.args.pivot c.requires.fact_1 c.requires.fact_2 in omega (arith, three_small b.k b.x b.y)
+overflow_mul-result-3 c = let b = small c.args.ndiv c.args.pivot c.requires.divisions c.requires.in_grid in omega (arith, three_small b.k b.x b.y)
 
 pub overflow_add-result-2 : goal.overflow_add-result-2
-overflow_add-result-2 c = let b = small c.args.ndiv c.args.pivot c.requires.fact_1 c.requires.fact_2 in omega (arith, three_small b.k b.x b.y, two-small b.j b.x, b.i)
+overflow_add-result-2 c = let b = small c.args.ndiv c.args.pivot c.requires.divisions c.requires.in_grid in omega (arith, three_small b.k b.x b.y, two-small b.j b.x, b.i)
 
 pub returns : goal.returns
 returns c =

@@ -11,10 +11,10 @@ last n r h k = omega arith
 
 pub returns-then-ratio-n : goal.returns-then-ratio-n
 unfolding inner
-returns-then-ratio-n c = record { fact_1 = rw (ne_eqb c.args.ratio c.args.n (other _ _ c.if-ratio-n.true)); fact_2 = c.if-ratio-n.true }
+returns-then-ratio-n c = record { value = rw (ne_eqb c.args.ratio c.args.n (other _ _ c.if-ratio-n.true)); in_range = c.if-ratio-n.true }
 
 pub returns-else-ratio-n : goal.returns-else-ratio-n
 unfolding inner
 returns-else-ratio-n c =
     let a = c.args in
-    let e = last a.n a.ratio c.if-ratio-n.false c.requires.fact_2 in record { fact_1 = rw (eq-eqb a.ratio a.n e, e); fact_2 = omega arith }
+    let e = last a.n a.ratio c.if-ratio-n.false c.requires.within in record { value = rw (eq-eqb a.ratio a.n e, e); in_range = omega arith }

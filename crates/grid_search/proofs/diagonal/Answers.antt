@@ -10,4 +10,4 @@ returns-then-ndim-eq2 c = rw c.if-ndim-eq2.true
 
 pub returns-else-ndim-eq2 : goal.returns-else-ndim-eq2
 unfolding diagonal of_bits of_int
-returns-else-ndim-eq2 c = rw (three c.args.ndim c.requires c.if-ndim-eq2.false)
+returns-else-ndim-eq2 c = rw (three c.args.ndim.n c.args.ndim.two_or_three c.if-ndim-eq2.false)

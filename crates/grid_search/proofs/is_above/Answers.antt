@@ -8,4 +8,4 @@ pub returns : goal.returns
 unfolding zip_with
 returns c =
     let a = c.args in
-    rw (above_tests a.ndim (a.low.x ∷ a.low.y ∷ a.low.z ∷ []) (a.high.x ∷ a.high.y ∷ a.high.z ∷ [])) c.on_every_axis.ensures
+    rw (above_tests a.ndim.n (a.low.x ∷ a.low.y ∷ a.low.z ∷ []) (a.high.x ∷ a.high.y ∷ a.high.z ∷ [])) c.on_every_axis.ensures

@@ -9,4 +9,4 @@ returns-then-ndim-eq2 c = rw c.if-ndim-eq2.true c.max-first.ensures
 
 pub returns : goal.returns
 unfolding largest
-returns c = rw (three c.args.ndim c.requires c.if-ndim-eq2.false) (rw c.max-first.ensures at c.max.ensures)
+returns c = rw (three c.args.ndim.n c.args.ndim.two_or_three c.if-ndim-eq2.false) (rw c.max-first.ensures at c.max.ensures)

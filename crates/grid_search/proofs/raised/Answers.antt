@@ -10,7 +10,7 @@ pub returns-then-border : goal.returns-then-border
 unfolding raised of_bits
 returns-then-border c =
     let a = c.args in
-    rw c.if-border.true (moved (λ (z : Float). z ⊕ a.border) a.ndim a.high c.in_use.result c.in_use.ensures)
+    rw c.if-border.true (moved (λ (z : Float). z ⊕ a.border) a.ndim.n a.high c.in_use.result c.in_use.ensures)
 
 pub returns : goal.returns
 unfolding raised of_bits

@@ -1,16 +1,14 @@
--- `listing::search_checked_on` meets its contract. Assumes nothing.
-use mathlib.Core.Path.{refl}
-use Rattle.listing.proofs.Answers.{axes, misplaced, walks, gives}
+use Rattle.listing.proofs.Answers.{axes, misplaced, walks, listed_out}
 use Rattle.listing.proofs.search_checked_on.Goals as goal
 
-pub place_fault-fault-requires : goal.place_fault-fault-requires
-place_fault-fault-requires c = axes _ _ c.requires.fact_1
+pub place_fault-requires : goal.place_fault-requires
+place_fault-requires c = axes _ _ c.requires.sound
 
-pub returns-then-fault-ne0 : goal.returns-then-fault-ne0
-returns-then-fault-ne0 c = misplaced _ _ _ _ _ c.requires.fact_1 c.place_fault-fault.ensures c.if-fault-ne0.true
+pub returns-in_err-place_fault : goal.returns-in_err-place_fault
+returns-in_err-place_fault c = misplaced _ _ _ _ _ c.requires.sound c.in_err-place_fault.field-0.0 (rw c.in_err-place_fault.was at c.place_fault.ensures) c.from_residual.ensures
 
-pub list_on-requires : goal.list_on-requires
-list_on-requires c = record { fact_1 = walks _ _ c.requires.fact_1 _ _ c.place_fault-fault.ensures c.if-fault-ne0.false _ refl; fact_2 = c.requires.fact_2 }
+pub list_on-requires-clause-known : goal.list_on-requires-clause-known
+list_on-requires-clause-known c = walks _ _ c.requires.sound _ _ (rw c.in_ok-place_fault.was at c.place_fault.ensures)
 
 pub returns : goal.returns
-returns c = gives _ _ _ _ _ c.requires.fact_1 c.place_fault-fault.ensures c.if-fault-ne0.false _ refl c.list_on.ensures
+returns c = listed_out _ _ _ _ _ c.requires.sound (rw c.in_ok-place_fault.was at c.place_fault.ensures) c.list_on.ensures

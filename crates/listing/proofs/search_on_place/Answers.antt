@@ -1,13 +1,5 @@
--- `listing::search_on_place` meets its contract. Assumes nothing.
-use Rattle.listing.proofs.Containers.{uncounted}
-use Rattle.listing.proofs.Answers.{turned_away, passes-library}
+use Rattle.listing.proofs.Answers.{turned_away}
 use Rattle.listing.proofs.search_on_place.Goals as goal
 
-pub returns-then-damage-ne0 : goal.returns-then-damage-ne0
-returns-then-damage-ne0 c = turned_away _ _ _ _ _ c.library_fault-damage.ensures c.if-damage-ne0.true
-
-pub search_checked_on_place-requires : goal.search_checked_on_place-requires
-search_checked_on_place-requires c = record { fact_1 = passes-library _ _ c.library_fault-damage.ensures c.if-damage-ne0.false; fact_2 = uncounted _ _ _ }
-
-pub returns : goal.returns
-returns c = c.search_checked_on_place.ensures
+pub returns-in_err-library_fault : goal.returns-in_err-library_fault
+returns-in_err-library_fault c = turned_away _ _ _ _ _ c.in_err-library_fault.field-0.0 (rw c.in_err-library_fault.was at c.library_fault.ensures) c.from_residual.ensures

@@ -1,16 +1,13 @@
--- `walk_rows` meets its contract. Invariant: the walk tells what it tells from row `visited` on, so many rows having been visited, after the slot that `bound` and `last` hold.
+-- `walk_rows` meets its contract. Invariant: the walk tells what it tells from row i on, so many rows having been visited, after the slot that `before` holds.
 -- Assumes nothing.
-use Rattle.std.proofs.Common.{◌-◌, ◌≤◌, ◌≡◌, drop}
-use Rattle.table.specs.Library.{library, table}
+use Rattle.std.proofs.Common.{◌≡◌, drop}
+use Rattle.table.specs.Library.{table}
+use Rattle.table.specs.Lent.{lent}
 use Rattle.rows.specs.Check.{walk_from, walk}
 use Rattle.rows.specs.Posts.{good_in, slot_before}
 use Rattle.rows.proofs.walk_rows.Given as goal
 
-abbrev pub invariant-loop-visited : goal.invariant-loop-visited
-invariant-loop-visited l =
-    (l.visited ≤ l.used)
-    × (walk (good_in l.ndim l.count) (table (library l.keys l.ids l.xs l.ys l.zs l.used))
-    ≡ walk_from (good_in l.ndim l.count) l.visited (slot_before l.bound l.last) (drop l.visited (table (library l.keys l.ids l.xs l.ys l.zs l.used))))
-
-abbrev pub decreases-loop-visited : goal.decreases-loop-visited
-decreases-loop-visited l = l.used - l.visited
+abbrev pub invariant-loop-i : goal.invariant-loop-i
+invariant-loop-i g l =
+    walk (good_in g.row.N l.count) (table (lent l.library))
+    ≡ walk_from (good_in g.row.N l.count) l.i (slot_before l.before.bound l.before.last) (drop l.i (table (lent l.library)))

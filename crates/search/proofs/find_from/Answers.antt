@@ -1,36 +1,35 @@
-use native.Mathlib.Omega.{arith}
-use mathlib.Core.Path.{refl, ap, ◌∙◌}
-use Rattle.basics.specs.Refusals.{success}
+-- `find_from` meets its contract.
+-- Assumes nothing.
+use Rattle.std.proofs.Common.{refl, sym, ◌∙◌}
 use Rattle.windows.specs.Window.{told_by}
-use Rattle.search.proofs.Walk.{beyond, look-start, look_stop, look-on, look_end}
+use Rattle.search.proofs.Walk.{beyond, look-start, look_stop, look_end, look-nearer, look-on}
+use Rattle.search.proofs.find_from.Goals.{then-takes_place, else-takes_place}
 use Rattle.search.proofs.find_from.Goals as goal
 
 pub loop-i-init : goal.loop-i-init
 unfolding told_by
-loop-i-init c = look-start c.args.sheet _ c.requires.ndim_value_3 c.args.key _ c.requires.ndim_value_2 c.args.from _ c.requires.from_value refl (λ e. c.square_above.ensures)
+loop-i-init c = look-start c.args.sheet _ c.requires.ordered c.args.key _ c.requires.inside c.args.from _ _ c.requires.first refl (λ e. c.square_above-least.ensures)
 
-pub returns-then-keys-i : goal.returns-then-keys-i
-returns-then-keys-i c =
-    c.found_of.ensures
-    ∙ ap success
-    (look_stop c.args.sheet _ c.requires.ndim_value_3 c.args.key _ c.requires.ndim_value_2 c.loop-i.i c.loop-i.best c.loop-i.invariant c.loop-i-test.true c.if-keys-i.true)
-
-pub read_row-row-requires : goal.read_row-row-requires
-read_row-row-requires c =
-    let h = c.loop-i-test.true in
-    (omega (arith, c.requires.ndim_value_3.room.0), (omega (arith, c.requires.ndim_value_3.room.1.0), (omega (arith, c.requires.ndim_value_3.room.1.1.0), (omega (arith, c.requires.ndim_value_3.room.1.1.1.0), (omega (arith, c.requires.ndim_value_3.room.1.1.1.1.0), tt)))))
-
-pub nearer-best-requires : goal.nearer-best-requires
+pub takes_place-requires : goal.takes_place-requires
 unfolding told_by
-nearer-best-requires c = let l = c.loop-i in record { fact_1 = c.square_within-within.ensures; fact_2 = beyond c.args.sheet _ c.args.key _ l.i l.best l.invariant }
-
-pub overflow_add-i : goal.overflow_add-i
-overflow_add-i c = omega (arith, c.loop-i-test.true, c.ranges.used)
+takes_place-requires c = let l = c.loop-i in record { near = c.square_within-within.ensures; far = beyond c.args.sheet _ c.args.key _ l.i l.best l.least l.invariant }
 
 pub loop-i-preserved : goal.loop-i-preserved
 loop-i-preserved c =
-    look-on c.args.sheet _ c.requires.ndim_value_3 c.args.key _ c.requires.ndim_value_2 c.loop-i.i c.loop-i.best c.loop-i.invariant c.loop-i-test.true
-    c.if-keys-i.false c.read_row-row.ensures c.point_square-square.ensures c.nearer-best.ensures
+    let l = c.loop-i in
+    elim c.if-takes_place.branch [
+      | then-takes_place w ↦
+          rw (w.best-is, w.least-is)
+          (look-nearer c.args.sheet _ c.requires.ordered c.args.key _ c.requires.inside l.i l.best l.least l.invariant c.loop-i-test.true c.if-library-i.false c.row-row.ensures
+          c.point_square-square.ensures (sym c.takes_place.ensures ∙ w.if-takes_place.true))
+      | else-takes_place w ↦
+          rw (w.best-is, w.least-is)
+          (look-on c.args.sheet _ c.requires.ordered c.args.key _ c.requires.inside l.i l.best l.least l.invariant c.loop-i-test.true c.if-library-i.false c.row-row.ensures
+          c.point_square-square.ensures (sym c.takes_place.ensures ∙ w.if-takes_place.false))
+    ]
 
-pub returns : goal.returns
-returns c = c.found_of-2.ensures ∙ ap success (look_end c.args.sheet _ c.requires.ndim_value_3 c.args.key _ c.requires.ndim_value_2 c.loop-i.i c.loop-i.best c.loop-i.invariant c.loop-i-test.false)
+pub returns-then-library-i : goal.returns-then-library-i
+returns-then-library-i c = look_stop c.args.sheet _ c.requires.ordered c.args.key _ c.requires.inside c.loop-i.i c.loop-i.best c.loop-i.least c.loop-i.invariant c.loop-i-test.true c.if-library-i.true
+
+pub returns-after-loop-i : goal.returns-after-loop-i
+returns-after-loop-i c = look_end c.args.sheet _ c.requires.ordered c.args.key _ c.requires.inside c.loop-i.i c.loop-i.best c.loop-i.least c.loop-i.invariant c.loop-i-test.false

@@ -1,17 +1,12 @@
-use native.Mathlib.Omega.{arith}
-use borrow.Author.Tests.{eq-eqb, ne_eqb}
-use Rattle.strike.proofs.Removal.{leading_step, leading_end}
+-- `first_with` meets its contract.
+-- Assumes nothing.
+use Rattle.std.proofs.Common.{◌==◌, rules, tests}
+use Rattle.std.proofs.lemmas.Iterator.{YieldsList-from_slice}
+use Rattle.std.proofs.lemmas.Iterator.Search.{position_from_yields_List}
+use Rattle.strike.proofs.Removal.{first-with}
 use Rattle.strike.proofs.first_with.Goals as goal
 
-pub returns-then-ids-i : goal.returns-then-ids-i
-returns-then-ids-i c =
-    let e = rw (eq-eqb _ _ c.if-ids-i.true) at (leading_step c.args.id c.args.used c.args.ids.now c.loop-i.i (omega arith) (omega arith)) in
-    omega (arith, c.loop-i.invariant.1, e)
-
-pub loop-i-preserved : goal.loop-i-preserved
-loop-i-preserved c =
-    let e = rw (ne_eqb _ _ c.if-ids-i.false) at (leading_step c.args.id c.args.used c.args.ids.now c.loop-i.i (omega arith) (omega arith)) in
-    (omega arith, omega (arith, c.loop-i.invariant.1, e))
-
 pub returns : goal.returns
-returns c = omega (arith, c.loop-i.invariant.1, leading_end c.args.id c.args.used c.args.ids.now c.loop-i.i (omega arith) (omega arith))
+returns c =
+    first-with c.args.id c.args.ids.now
+    (position_from_yields_List (λ j. j == c.args.id) _ _ c.position.result c.position.ensures.ran (YieldsList-from_slice c.args.ids.now cc) (λ x b q k. search (rules, tests)))

@@ -1,70 +1,43 @@
--- Each way out is settled by the tests before it. The first time the text is put into none of the buffer, and the marks are judged
--- and its length is learnt; the second time it fits.
+-- Each way out is settled by the tests before it. The first time the text is put into no buffer, and the marks are judged and its
+-- length is learnt; the second time it fits.
 -- Assumes nothing.
-use Prim.Native.Nat.{◌≤◌, ◌<◌}
-use native.Mathlib.Omega.{arith}
-use mathlib.Core.Path.{◌≡◌, refl, sym, ◌∙◌}
-use mathlib.Core.List.{[]}
-use lib.ListN.{length}
-use borrow.Author.Rules.{rules}
-use Rattle.mark_lists.specs.MarkLists.{mark_list, marks_in}
-use Rattle.survey_export.specs.Export.{text_of}
-use Rattle.survey_export.proofs.Answers.{most, room-used, fault-lists, fault-used, fault_mark, fault-room, lists-pass, used-past, sound-lists, measured, unmeasured, put_again, nothing, turned_away, written}
+use Rattle.std.proofs.Common.{rules}
+use Rattle.mark_lists.specs.Lent.{lent}
+use Rattle.survey_export.proofs.Answers.{most, room-used, fault_lists, sound, fault_past, fault_found, measured, fault_short, all_fits, turned_away, raised, written}
 use Rattle.survey_export.proofs.export.Goals as goal
 
-pub returns-then-number-ne0 : goal.returns-then-number-ne0
-returns-then-number-ne0 c =
-    let l = mark_list c.args.ids.now c.args.xs.now c.args.ys.now c.args.zs.now c.args.used in
-    let buffer = c.args.text.now in
-    turned_away l buffer _ buffer (fault-lists l (length buffer) _ c.lists_fault-number.ensures c.if-number-ne0.true) refl
+pub returns-in_err-fault : goal.returns-in_err-fault
+returns-in_err-fault c = raised _ _ _ (fault_lists _ _ c.in_err-fault.ensures) _ c.from_residual.ensures
 
-pub returns-then-used-ids : goal.returns-then-used-ids
-returns-then-used-ids c =
-    let l = mark_list c.args.ids.now c.args.xs.now c.args.ys.now c.args.zs.now c.args.used in
-    let buffer = c.args.text.now in
-    let past : length l.ids < l.used = search rules in
-    let passed = lists-pass l (sym c.if-number-ne0.false ∙ c.lists_fault-number.ensures) in
-    turned_away l buffer _ buffer (fault-used l (length buffer) passed.0 (used-past l past)) refl
+pub returns-then-lists : goal.returns-then-lists
+returns-then-lists c = turned_away _ _ _ (fault_past _ c.in_ok-fault.ensures c.if-lists.true _)
 
-pub put_marks-measured-requires : goal.put_marks-measured-requires
-put_marks-measured-requires c =
-    let l = mark_list c.args.ids.now c.args.xs.now c.args.ys.now c.args.zs.now c.args.used in
-    let within : l.used ≤ length l.ids = search rules in
-    let sound = sound-lists l c.lists_fault-number.ensures c.if-number-ne0.false within in record { fact_1 = room-used l sound; fact_2 = most l sound }
+pub put_marks-requires-clause-room : goal.put_marks-requires-clause-room
+put_marks-requires-clause-room c = room-used _ (sound _ c.in_ok-fault.ensures c.if-lists.false)
 
-pub returns-in_default : goal.returns-in_default
-returns-in_default c =
-    let l = mark_list c.args.ids.now c.args.xs.now c.args.ys.now c.args.zs.now c.args.used in
-    let within : l.used ≤ length l.ids = search rules in
-    let sound = sound-lists l c.lists_fault-number.ensures c.if-number-ne0.false within in
-    let buffer = c.args.text.now in
-    let none : c.put_marks-measured.new.text ≡ [] = nothing c.put_marks-measured.auto.text in
-    turned_away l buffer _ _ (fault_mark l (length buffer) sound (unmeasured _ _ _ _ _ c.put_marks-measured.ensures c.in_default.is)) (rw none)
+pub put_marks-requires-clause-few : goal.put_marks-requires-clause-few
+put_marks-requires-clause-few c = most (lent c.args.lists) (sound _ c.in_ok-fault.ensures c.if-lists.false)
+
+pub returns-in_err-put_marks : goal.returns-in_err-put_marks
+returns-in_err-put_marks c =
+    let s = sound (lent c.args.lists) c.in_ok-fault.ensures c.if-lists.false in
+    raised _ _ _ (fault_found _ s c.new-measure.result c.put_marks.new.writer _ c.in_err-put_marks.ensures.puts _) _ c.from_residual-in_err-put_marks.ensures
 
 pub returns-then-length-text : goal.returns-then-length-text
 returns-then-length-text c =
-    let l = mark_list c.args.ids.now c.args.xs.now c.args.ys.now c.args.zs.now c.args.used in
-    let within : l.used ≤ length l.ids = search rules in
-    let sound = sound-lists l c.lists_fault-number.ensures c.if-number-ne0.false within in
-    let buffer = c.args.text.now in
-    let none : c.put_marks-measured.new.text ≡ [] = nothing c.put_marks-measured.auto.text in
-    let known = measured _ _ _ _ _ c.put_marks-measured.ensures c.in-Length.is in
-    let long : length buffer < length (text_of (marks_in l)) = omega (arith, known.1, rw none at c.if-length-text.true) in
-    turned_away l buffer _ _ (fault-room l (length buffer) sound known.0 long) (rw none)
+    let s = sound (lent c.args.lists) c.in_ok-fault.ensures c.if-lists.false in
+    turned_away _ _ _ (fault_short _ c.new-measure.ensures.start c.in_ok-put_marks.ensures.puts s _ c.if-length-text.true)
 
-pub put_marks-requires : goal.put_marks-requires
-put_marks-requires c =
-    let l = mark_list c.args.ids.now c.args.xs.now c.args.ys.now c.args.zs.now c.args.used in
-    let within : l.used ≤ length l.ids = search rules in
-    let sound = sound-lists l c.lists_fault-number.ensures c.if-number-ne0.false within in record { fact_1 = room-used l sound; fact_2 = most l sound }
+pub put_marks-requires-2-clause-room : goal.put_marks-requires-2-clause-room
+put_marks-requires-2-clause-room c = room-used _ (sound _ c.in_ok-fault.ensures c.if-lists.false)
+
+pub put_marks-requires-2-clause-few : goal.put_marks-requires-2-clause-few
+put_marks-requires-2-clause-few c = most (lent c.args.lists) (sound _ c.in_ok-fault.ensures c.if-lists.false)
 
 pub returns : goal.returns
 returns c =
-    let l = mark_list c.args.ids.now c.args.xs.now c.args.ys.now c.args.zs.now c.args.used in
-    let within : l.used ≤ length l.ids = search rules in
-    let sound = sound-lists l c.lists_fault-number.ensures c.if-number-ne0.false within in
-    let buffer = c.args.text.now in
-    let none : c.put_marks-measured.new.text ≡ [] = nothing c.put_marks-measured.auto.text in
-    let known = measured _ _ _ _ _ c.put_marks-measured.ensures c.in-Length.is in
-    let room : length (text_of (marks_in l)) ≤ length buffer = omega (arith, known.1, rw none at c.if-length-text.false) in
-    written l buffer _ _ (record { sound = sound; good = known.0; roomy = room }) known.1 (put_again (marks_in l) buffer _ c.put_marks.result known.0 (rw none at c.put_marks.ensures) room)
+    let l = lent c.args.lists in
+    let s = sound l c.in_ok-fault.ensures c.if-lists.false in
+    let a = all_fits l c.new-measure.ensures.start c.in_ok-put_marks.ensures.puts s _ c.if-length-text.false in
+    written l _ a _ (measured l c.new-measure.ensures.start c.in_ok-put_marks.ensures.puts)
+    _ c.new-writer.result _ c.new-writer.ensures.start c.new-writer.ensures.unchanged c.put_marks-2.ensures.puts _ (search rules)

@@ -1,25 +1,12 @@
-use mathlib.Core.Path.{refl, sym}
-use borrow.Author.Tests.{le-leb, lt-leb}
-use Rattle.basics.proofs.Walks.{all_join, all-joined}
+use Rattle.std.proofs.Common.{rules, tests, le-leb}
+use Rattle.std.proofs.lemmas.Iterator.{YieldsList-from_slice}
+use Rattle.std.proofs.lemmas.Iterator.Search.{all_from_yields_List}
 use Rattle.survey_import.specs.Marks.{plain, is_description}
+use Rattle.survey_import.proofs.Reading.{all_listed}
 use Rattle.survey_import.proofs.is_description.Goals as goal
 
-pub returns-then-rest-gt32 : goal.returns-then-rest-gt32
+pub returns-then-rest-le32 : goal.returns-then-rest-le32
 unfolding is_description
-returns-then-rest-gt32 c = rw (lt-leb _ _ c.if-rest-gt32.true)
-
-pub loop-i-init : goal.loop-i-init
-loop-i-init c = refl
-
-pub loop-i-preserved : goal.loop-i-preserved
-loop-i-preserved c =
-    let s = c.args in
-    let l = c.loop-i in
-    rw c.is_plain-ok.ensures (all_join plain s.rest.now l.i l.ok l.invariant 0 c.loop-i-test.true)
-
-pub returns : goal.returns
-unfolding is_description
-returns c =
-    let s = c.args in
-    let l = c.loop-i in
-    rw (le-leb _ _ c.if-rest-gt32.false) (sym (all-joined plain s.rest.now l.i l.ok l.invariant c.loop-i-test.false))
+returns-then-rest-le32 c =
+    rw (le-leb _ 32 c.if-rest-le32.true, all_listed plain c.args.rest.now)
+    (all_from_yields_List plain _ _ c.all.result c.all.ensures.ran (YieldsList-from_slice c.args.rest.now cc) (λ x b q k. search (rules, tests)))

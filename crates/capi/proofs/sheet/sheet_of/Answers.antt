@@ -7,7 +7,7 @@ use Rattle.capi.proofs.sheet.sheet_of.Goals as goal
 pub read_sheet-requires : goal.read_sheet-requires
 read_sheet-requires c =
     let a = c.args in
-    let l = lengths_of a.numbers.now a.floats.now (sym c.readable.ensures ∙ c.if-readable.true) in let all_of = l in record { fact_1 = all_of.0; fact_2 = all_of.1 }
+    let l = lengths_of a.numbers.now a.floats.now (sym c.readable.ensures ∙ c.if-readable.true) in record { numbers_length = l.0; floats_length = l.1 }
 
 pub returns-then-readable : goal.returns-then-readable
 unfolding sheet_of

@@ -6,4 +6,4 @@ pub returns-then-ndim-eq2 : goal.returns-then-ndim-eq2
 returns-then-ndim-eq2 c = rw c.if-ndim-eq2.true
 
 pub returns : goal.returns
-returns c = rw (three c.args.ndim c.requires c.if-ndim-eq2.false)
+returns c = rw (three c.args.ndim.n c.args.ndim.two_or_three c.if-ndim-eq2.false)

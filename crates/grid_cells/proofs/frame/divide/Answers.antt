@@ -11,6 +11,6 @@ pub returns : goal.returns
 unfolding cell_divisions
 returns c =
     let a = c.args in
-    let axes = take_zip (λ (y x : Float). truncate (ceil_of ((y ⊖ x) ⊘ a.side_length))) a.ndim (a.xmax.x ∷ a.xmax.y ∷ a.xmax.z ∷ []) (a.xmin.x ∷ a.xmin.y ∷ a.xmin.z ∷ []) in
+    let axes = take_zip (λ (y x : Float). truncate (ceil_of ((y ⊖ x) ⊘ a.side_length))) a.ndim.n (a.xmax.x ∷ a.xmax.y ∷ a.xmax.z ∷ []) (a.xmin.x ∷ a.xmin.y ∷ a.xmin.z ∷ []) in
     rw (← axes, ← c.divisions_along.ensures, ← c.divisions_along-2.ensures, ← c.divisions_along-3.ensures)
     c.in_use.ensures

@@ -7,12 +7,8 @@ use Rattle.geometry.proofs.Axes.{axis_entry}
 use Rattle.listing.specs.Place.{passes, unfit_filter}
 use Rattle.listing.proofs.near.keeps.Goals as goal
 
-pub returns-in-Everything : goal.returns-in-Everything
-unfolding passes
-returns-in-Everything c = rw c.in-Everything.is
-
 pub returns-in-Range : goal.returns-in-Range
 unfolding passes unfit_filter
 returns-in-Range c =
-    let fit : leb c.args.ndim c.in-Range.axis ≡ false = rw c.in-Range.is at c.requires.fact_2 in
-    rw (c.in-Range.is, axis_entry _ _ c.args.x c.requires.fact_1 (leb-false _ _ fit), c.axis-v.ensures)
+    let fit : leb c.args.ndim.n c.in-Range.axis ≡ false = rw c.in-Range.is at c.requires in
+    rw (c.in-Range.is, axis_entry _ _ c.args.x c.args.ndim.two_or_three (leb-false _ _ fit), c.axis-v.ensures)

@@ -19,14 +19,14 @@ pub returns : goal.returns
 unfolding of_bits
 returns c =
     record {
-      fact_1 = record {
+      made = record {
         line = c.line_of.ensures;
-        for_center = c.window_of.ensures.fact_1;
-        for_point = c.window_of-2.ensures.fact_1;
-        center_from = c.window_of.ensures.fact_2;
-        center_to = c.window_of.ensures.fact_3;
-        point_from = c.window_of-2.ensures.fact_2;
-        point_to = c.window_of-2.ensures.fact_3;
+        for_center = c.window_of.ensures.tells;
+        for_point = c.window_of-2.ensures.tells;
+        center_from = c.window_of.ensures.from;
+        center_to = c.window_of.ensures.to;
+        point_from = c.window_of-2.ensures.from;
+        point_to = c.window_of-2.ensures.to;
       };
-      fact_2 = refl;
+      place = refl;
     }

@@ -1,5 +1,0 @@
--- `capi::distances::gemlab_point_line_distance` meets its contract. Assumes nothing.
-use Rattle.capi.proofs.distances.gemlab_point_line_distance.Goals as goal
-
-pub returns : goal.returns
-returns c = rw c.point_line_distance.ensures at c.told.ensures

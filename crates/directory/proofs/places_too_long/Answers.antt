@@ -1,9 +1,0 @@
--- `places_too_long` meets its contract.
--- Assumes nothing.
-use mathlib.Core.Bool.{or-false}
-use Rattle.directory.specs.Directory.{long_places}
-use Rattle.directory.proofs.places_too_long.Goals as goal
-
-pub returns : goal.returns
-unfolding long_places
-returns c = λ n. rw or-false

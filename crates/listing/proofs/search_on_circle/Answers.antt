@@ -1,7 +1,0 @@
--- `listing::search_on_circle` meets its contract. Assumes nothing.
-use Rattle.listing.specs.Place.{asked_of}
-use Rattle.listing.proofs.search_on_circle.Goals as goal
-
-pub returns : goal.returns
-unfolding asked_of
-returns c = c.search_on_place.ensures

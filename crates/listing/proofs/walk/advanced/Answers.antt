@@ -1,8 +1,0 @@
--- `listing::walk::advanced` meets its contract. Assumes nothing.
-use Rattle.listing.proofs.walk.advanced.Goals as goal
-
-pub returns-then-more : goal.returns-then-more
-returns-then-more c = rw c.if-more.true
-
-pub returns-else-more : goal.returns-else-more
-returns-else-more c = rw c.if-more.false

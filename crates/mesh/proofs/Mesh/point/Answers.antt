@@ -1,0 +1,14 @@
+-- `mesh::Mesh::point` meets its contract. Assumes nothing.
+use Rattle.std.proofs.Common.{ℕ, ◌*◌, ap, ◌∙◌, take, drop}
+use native.Mathlib.Nat.{add-sub_cancel_left}
+use Rattle.mesh.proofs.Whole.{point_part}
+use Rattle.mesh.specs.Mesh.{point_at}
+use Rattle.geometry.specs.Position.{position_of}
+use Rattle.mesh.proofs.Mesh.point.Goals as goal
+
+pub returns : goal.returns
+unfolding point_at
+returns c =
+    let m = c.args.self in
+    let at = c.args.p * m.ndim in
+    c.new.ensures ∙ ap position_of (ap (λ (k : ℕ). take k (drop at m.coords.now)) (add-sub_cancel_left at m.ndim) ∙ point_part m.ndim m.coords.now at c.requires.in_list)

@@ -1,8 +1,0 @@
--- `replay::cells::meshes` is safe and ends: the turns left are the measure. Assumes nothing.
-use Rattle.replay.proofs.cells.meshes.Given as goal
-
-abbrev pub invariant-loop-turns : goal.invariant-loop-turns
-invariant-loop-turns l = Unit {0}
-
-abbrev pub decreases-loop-turns : goal.decreases-loop-turns
-decreases-loop-turns l = l.turns

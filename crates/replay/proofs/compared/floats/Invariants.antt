@@ -1,9 +1,0 @@
--- `replay::compared::floats` reads no more than fits. The loop keeps the list's length, and `n` within it. Assumes nothing.
-use Rattle.std.proofs.Common.{◌≡◌, ◌-◌, ◌≤◌, length}
-use Rattle.replay.proofs.compared.floats.Given as goal
-
-abbrev pub invariant-loop-n : goal.invariant-loop-n
-invariant-loop-n l = (length l.to ≡ length l.initial.to) × (l.n ≤ length l.to)
-
-abbrev pub decreases-loop-n : goal.decreases-loop-n
-decreases-loop-n l = length l.initial.to - l.n

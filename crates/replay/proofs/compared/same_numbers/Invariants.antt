@@ -1,8 +1,0 @@
--- `replay::compared::same_numbers` is safe and ends: the numbers left to read are the measure. Assumes nothing.
-use Rattle.replay.proofs.compared.same_numbers.Given as goal
-
-abbrev pub invariant-loop-left : goal.invariant-loop-left
-invariant-loop-left l = Unit {0}
-
-abbrev pub decreases-loop-left : goal.decreases-loop-left
-decreases-loop-left l = l.left
