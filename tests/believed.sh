@@ -30,9 +30,9 @@ function words(text, into,    n, i, m, list, w) {
     return m
 }
 
-# `use MODULE.{A, B as C}` and `use MODULE as NAME` of this repository; other modules are the kit's.
+# `use MODULE.{A, B as C}` and `use MODULE as NAME` of this repository, also `pub`; other modules are the kit's.
 function import(line,    module, rest, n, i, list, name, shown, k) {
-    sub(/^ *(ghost )?use +/, "", line)
+    sub(/^ *((ghost|pub) )?use +/, "", line)
     sub(/; *$/, "", line)
     if (line !~ /^Rattle\./)
         return
@@ -107,7 +107,7 @@ function antt(line,    depth, bare, head, name, sort, d) {
     match(line, /^ */)
     depth = RLENGTH
     bare = substr(line, depth + 1)
-    if (bare ~ /^use /) {
+    if (bare ~ /^(pub )?use /) {
         import(line)
         return
     }
@@ -404,6 +404,7 @@ module _ (w : Way) (p : Pair) where
 END
     cat >crates/low/specs/Mixed.antt <<'END'
 use Rattle.low.specs.Numbers.{Way, turned}
+pub use Rattle.low.specs.Numbers.{down}
 abbrev pub mixed : Way → ℕ
 mixed w = turned w w
 
@@ -415,8 +416,7 @@ abbrev pub apart : ℕ
 apart = 1
 END
     cat >crates/high/specs/Claims.antt <<'END'
-use Rattle.low.specs.Numbers.{down as back}
-use Rattle.low.specs.Mixed.{mixed as both}
+use Rattle.low.specs.Mixed.{mixed as both, down as back}
 pub record Claim : Type 0 where
   pub is : both back ≡ 0
 END
