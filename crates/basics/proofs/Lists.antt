@@ -4,11 +4,13 @@ use Prim.Native.Nat.{ℕ, zero, suc, ◌+◌, ◌≤◌, ◌<◌, zero-le, suc-l
 use native.Mathlib.Nat.{le_of_suc-le-suc, not-suc-le-zero}
 use native.Mathlib.Omega.{arith}
 use mathlib.Core.Path.{◌≡◌, refl, ap}
-use mathlib.Core.Bool.{Bool, true, false, not}
+use mathlib.Core.Bool.{Bool, true, false, not, ◌&&◌, ◌||◌}
 use mathlib.Core.List.{List, [], ◌∷◌, ◌++◌, map, map-append}
+use lib.Dec.{eqb}
 use lib.ListN.{length, get_or, take, drop}
 use Rattle.basics.proofs.Bools.{by_test, clash, both, and_left, and_right}
-use Rattle.basics.specs.Lists.{all, keep, tab, zip_with}
+use Rattle.std.specs.List.{list_all, list_any}
+use Rattle.basics.specs.Lists.{all, any, keep, leading, tab, zip_with}
 
 -- ---- f 0, f 1, ..
 
@@ -47,6 +49,26 @@ module _ {A : Type 0} where
   all_at p [] i d h e = absurd (not-suc-le-zero h)
   all_at p (x ∷ l) zero d h e = and_left (p x) (all p l) e
   all_at p (x ∷ l) (suc i) d h e = all_at p l i d (le_of_suc-le-suc h) (and_right (p x) (all p l) e)
+
+-- ---- the same tests in std's words
+
+module _ {A : Type 0} where
+  pub all-list : (p : A → Bool) (l : List A) → all p l ≡ list_all p l
+  unfolding all
+  all-list p [] = refl
+  all-list p (x ∷ l) = ap (λ (b : Bool). p x && b) (all-list p l)
+
+  pub any-list : (p : A → Bool) (l : List A) → any p l ≡ list_any p l
+  unfolding any
+  any-list p [] = refl
+  any-list p (x ∷ l) = ap (λ (b : Bool). p x || b) (any-list p l)
+
+-- ---- how many stand before the first v
+
+pub leading-most : (v : ℕ) (l : List ℕ) → leading v l ≤ length l
+unfolding leading
+leading-most v [] = omega arith
+leading-most v (x ∷ l) = by_test (eqb x v) (λ e. rw e (omega arith)) (λ e. rw e (omega (arith, leading-most v l)))
 
 -- ---- map
 

@@ -22,6 +22,7 @@ use Rattle.floats.proofs.Exact.{in_units}
 use Rattle.floats.proofs.Unique.{value_unique}
 use Rattle.floats.proofs.Order.{le_cross, le_join}
 use Rattle.floats.proofs.Upto.{unsigned}
+use Rattle.floats.proofs.Values.{neg-round}
 
 -- ---- a value that binary64 holds is its own rounding
 own : (s : Bool) (m : ℕ) (e : ℤ) → T (fits binary64 (fin s m e)) → round binary64 s (m * up e) (down e) ≡ fin s m e
@@ -42,19 +43,6 @@ own s (suc m) e h =
         (lt_of_le_of_lt (le_of_eq (sym e)) (lt_of_lt_of_le (mul-lt-mul_of_pos_right h (pow_pos 1074)) (le_of_eq (mul_right_comm (2 ^ 1024) d (2 ^ 1074)))))
 
 -- ---- the other sign
-turned : (f : Format) (a c : ℕ) → round f true a c ≡ neg (round f false a c)
-unfolding units odd neg
-turned f a c =
-    rw (round_is f true a c, round_is f false a c) (go (nearest (a * 2 ^ low f / (c * 2 ^ K)) (compare (a * 2 ^ low f % (c * 2 ^ K) * 2) (c * 2 ^ K))) (ltb (nearest (a * 2 ^ low f / (c * 2 ^ K)) (compare (a * 2 ^ low f % (c * 2 ^ K) * 2) (c * 2 ^ K)) * 2 ^ K) (2 ^ (low f + suc (emax f)))))
-  where
-    K : ℕ
-    K = size (a * 2 ^ low f / c) - prec f
-
-    go : (q : ℕ) (b : Bool) → cond b (odd (suc (prec f)) true q K (low f)) (inf true) ≡ neg (cond b (odd (suc (prec f)) false q K (low f)) (inf false))
-    go zero true = refl
-    go (suc q) true = refl
-    go q false = refl
-
 -- y from 0 up to x, so -x up to -y
 minus_first : (m : ℕ) (e : ℤ) (n : ℕ) (d : ℤ) → le (fin true m e) (fin false n d) ≡ true
 unfolding le
@@ -113,7 +101,7 @@ grown (fin true m e) (fin false n d) h f g u =
     (λ l.
     by_test (ltb B A)
     (λ k.
-    rw (l, k, turned binary64 (A - B) C)
+    rw (l, k, ← neg-round binary64 (A - B) C)
     (turned_le m e (round binary64 false (A - B) C) (round_from_zero (A - B) C P)
     (subst (λ (z : Float). le (round binary64 false (A - B) C) z ≡ true) (own false m e (unsigned_fits m e h))
     (is_true (le (round binary64 false (A - B) C) (round binary64 false (m * up e) (down e)))

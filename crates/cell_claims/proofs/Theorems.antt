@@ -22,7 +22,8 @@ use Rattle.cell_sizes.specs.declared.Settings.{Settings}
 use Rattle.cell_sizes.specs.Large.{Measured, measure, boxes, is_large, is_filed}
 use Rattle.cell_sizes.proofs.Boxes.{length-boxes}
 use Rattle.cell_rows.specs.Filing.{cell_key, box_corners, box_exceeds}
-use Rattle.cell_rows.proofs.Over.{take-over, length_over}
+use Rattle.table.proofs.Libraries.{length_over}
+use Rattle.cell_rows.proofs.Over.{take-over}
 use Rattle.grid_cells.specs.declared.GridCells.{GridCells}
 use Rattle.grid_cells.specs.Build.{IndexLists, lists_too_long, FiledIndex, file_index, make, index, containers_of, low_corner, high_corner, cell_side, size_tests, settle_build}
 use Rattle.sorting.specs.Ascent.{ascending}

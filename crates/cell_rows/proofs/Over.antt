@@ -19,14 +19,6 @@ module _ {A : Type 0} where
   unfolding over
   drop-over new old n e = drop_at new (drop (length new) old) n e ∙ ap (λ (k : ℕ). drop k old) e
 
-  pub length_over : (new old : List A) → length new ≤ length old → length (over new old) ≡ length old
-  unfolding over
-  length_over new old h = simp (length-append, length-drop) (omega arith)
-
-  pub over-over : (more new old : List A) → length more ≡ length new → over more (over new old) ≡ over more old
-  unfolding over
-  over-over more new old e = ap (λ (l : List A). more ++ l) (drop-over new old (length more) (sym e))
-
   -- nothing yet
   pub over_none : (old : List A) → old ≡ over [] old
   unfolding over

@@ -23,7 +23,8 @@ use Rattle.cell_sizes.specs.Large.{boxes, numbered}
 use Rattle.cell_rows.specs.Filing.{file_cells}
 use Rattle.cell_rows.specs.Steps.{box_keys_or, filed_keys, too_far, filed_keys_or, pack, packed_key, packed_cell, packed_rows, row_count_or, Fitting, Written, Filed}
 use Rattle.cell_sizes.proofs.Boxes.{boxes-next, boxes_end}
-use Rattle.cell_rows.proofs.Over.{take-over, drop-over, length_over, over_none, over-next, over_more}
+use Rattle.table.proofs.Libraries.{length_over}
+use Rattle.cell_rows.proofs.Over.{take-over, drop-over, over_none, over-next, over_more}
 use Rattle.cell_rows.proofs.Rows.{rows-keys, rows-cells}
 
 -- ---- one cell

@@ -23,9 +23,10 @@ use lib.Seq.{take_all}
 use borrow.Author.Tests.{leb-true, eqb-true, ltb-true, ltb-false}
 use Rattle.basics.specs.Lists.{leading}
 use Rattle.basics.proofs.Bools.{by_test, clash, and_both, or_either}
+use Rattle.basics.proofs.Lists.{leading-most}
 use Rattle.text.specs.Text.{number_of, number_from}
 use Rattle.lines.specs.Pieces.{split}
-use Rattle.lines.proofs.Pieces.{leading_found, leading_unfound, leading-most, split-some, split-first, split-none, split-whole}
+use Rattle.lines.proofs.Pieces.{leading_found, leading_unfound, split-some, split-first, split-none, split-whole}
 use Rattle.millimetres.specs.Millimetres.{limit, signed}
 use Rattle.decimals.specs.Decimals.{digits, has_minus, parts_of, thousandths, good_parts, is_coordinate, millimetres, millimetres_in, number_read}
 use Rattle.decimals.specs.Posts.{digits_in, decimals_in, thousandths_in, IsCut}

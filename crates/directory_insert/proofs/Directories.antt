@@ -12,7 +12,7 @@ use Rattle.basics.specs.Lists.{over}
 use Rattle.basics.proofs.Lists.{map-tab, tab-take}
 use Rattle.table.specs.Rows.{lead}
 use Rattle.table.specs.Posts.{opened}
-use Rattle.table.proofs.Libraries.{length_over}
+use Rattle.table.proofs.Libraries.{length_over, over-front, over-over}
 use Rattle.directory.specs.declared.Entry.{Entry}
 use Rattle.directory.specs.Entries.{key_of, first_of, count_of}
 use Rattle.directory.specs.Directory.{Directory, directory, entry_at, entries}
@@ -33,19 +33,6 @@ module _ (d : Directory) where
   entries-counts h = map-tab count_of d.used (entry_at d) ∙ tab-take d.used d.counts 0 h
 
 -- ---- what writing entries leaves
-
--- the front of a list written over with what stands there, and written over again as far or farther
-over-same : (new old : List ℕ) → new ≡ take (length new) old → over new old ≡ old
-unfolding over
-over-same new old e = ap (λ (a : List ℕ). a ++ drop (length new) old) e ∙ take-append-drop (length new) old
-
-over_again : (new more old : List ℕ) → length new ≤ length more → over more (over new old) ≡ over more old
-unfolding over
-over_again new more old h =
-    let m = length more - length new in
-    let e : length more ≡ length new + m = omega arith in
-    ap (λ (r : List ℕ). more ++ r)
-    (ap (λ (n : ℕ). drop n (new ++ drop (length new) old)) e ∙ drop-append-add new (drop (length new) old) m ∙ drop-drop m (length new) old ∙ ap (λ (n : ℕ). drop n old) (sym e))
 
 entries_over : (es : List Entry) (a b c : List ℕ) → entries (directory (map key_of es ++ a) (map first_of es ++ b) (map count_of es ++ c) (length es)) ≡ es
 unfolding entries
@@ -72,7 +59,7 @@ write_same d h = λ i. record {
 }
   where
     front : (f : Entry → ℕ) (l : List ℕ) → map f (entries d) ≡ take d.used l → over (map f (entries d)) l ≡ l
-    front f l e = over-same (map f (entries d)) l (e ∙ ap (λ (n : ℕ). take n l) (sym (length-map (entries d) f ∙ entries-count d)))
+    front f l e = over-front (map f (entries d)) l (e ∙ ap (λ (n : ℕ). take n l) (sym (length-map (entries d) f ∙ entries-count d)))
 
 -- and again, as many or more
 pub write-write : (es more : List Entry) (d : Directory) → length es ≤ length more → write_places more (write_places es d) ≡ write_places more d
@@ -80,7 +67,7 @@ unfolding write_places
 write-write es more d h = λ i. record { keys = again key_of d.keys i; firsts = again first_of d.firsts i; counts = again count_of d.counts i; used = length more }
   where
     again : (f : Entry → ℕ) (l : List ℕ) → over (map f more) (over (map f es) l) ≡ over (map f more) l
-    again f l = over_again (map f es) (map f more) l (omega (arith, length-map es f, length-map more f))
+    again f l = over-over (map f es) (map f more) l (omega (arith, length-map es f, length-map more f))
 
 -- in as many places, where there is room
 abbrev pub AsLong : Directory → Directory → Type 0

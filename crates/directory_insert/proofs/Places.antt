@@ -16,6 +16,7 @@ use Rattle.basics.proofs.Bools.{by_test, clash}
 use Rattle.basics.proofs.Lists.{map-drop}
 use Rattle.table.specs.Rows.{lead}
 use Rattle.table.specs.Posts.{opened}
+use Rattle.table.proofs.First.{lead-most}
 use Rattle.table.proofs.Stores.{opened_parts, set_parts}
 use Rattle.directory.specs.declared.Entry.{Entry}
 use Rattle.directory.specs.Entries.{entry, key_of, first_of, count_of}
@@ -95,11 +96,6 @@ found_at k (j ∷ ks) h =
     by_test (ltb j k)
     (λ e. rw e (let d = found_at k ks (rw e at h) in (omega (arith, d.0), d.1)))
     (λ e. rw e (omega arith, eqb-true j k (rw e at h)))
-
-lead-most : (k : ℕ) (ks : List ℕ) → lead k ks ≤ length ks
-unfolding lead
-lead-most k [] = omega arith
-lead-most k (j ∷ ks) = by_test (ltb j k) (λ e. rw e (omega (arith, lead-most k ks))) (λ e. rw e (omega arith))
 
 entered_new : (k n : ℕ) (es : List Entry) → found k (map key_of es) ≡ false
     → entered k n es ≡ take (lead k (map key_of es)) es ++ entry k (get_or (map first_of es) (lead k (map key_of es)) n) 1 ∷ map later (drop (lead k (map key_of es)) es)

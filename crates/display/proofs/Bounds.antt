@@ -227,12 +227,17 @@ length_slots : (keys ids : List ℕ) (used : ℕ) → length (slots_of keys ids 
 unfolding slots_of
 length_slots keys ids used = length-tab used (slot_at keys ids)
 
--- of any few divisions and rows
+-- of any few divisions, and of so many of the rows that the lists hold
+pub whole_most : (divisions keys ids : List ℕ) (used : ℕ) → all word divisions ≡ true → ((i : ℕ) → Fits w64 (get_or keys i 0)) → ((i : ℕ) → Fits w64 (get_or ids i 0))
+    → length divisions ≤ 3 → used ≤ 65536 → length (slots_text divisions (slots_of keys ids used)) ≤ most_bytes used
+whole_most divisions keys ids used numbers h k e u =
+    let slots = slots_of keys ids used in
+    let good = slots_words keys ids used h k in
+    let long = length_slots keys ids used in
+    omega (arith, whole_length divisions slots, lines-most slots good, summary-most slots good divisions numbers e (omega (arith, long)), long)
+
+-- of all rows
 pub whole_room : (divisions keys ids : List ℕ) → ((i : ℕ) → Fits w64 (get_or divisions i 0)) → ((i : ℕ) → Fits w64 (get_or keys i 0)) → ((i : ℕ) → Fits w64 (get_or ids i 0))
     → length divisions ≤ 3 → length keys ≤ 65536 → length (slots_text divisions (slots_of keys ids (length keys))) ≤ most_bytes (length keys)
 whole_room divisions keys ids w h k e u =
-    let slots = slots_of keys ids (length keys) in
-    let good = slots_words keys ids (length keys) h k in
-    let long = length_slots keys ids (length keys) in
-    let numbers = all_by word divisions 0 (λ i l. lt-ltb (get_or divisions i 0) (2 ^ 64) (w i).fits) in
-    omega (arith, whole_length divisions slots, lines-most slots good, summary-most slots good divisions numbers e (omega (arith, long)), long)
+    whole_most divisions keys ids (length keys) (all_by word divisions 0 (λ i l. lt-ltb (get_or divisions i 0) (2 ^ 64) (w i).fits)) h k e u

@@ -94,11 +94,6 @@ unfolding all
 every_from_left f b [] = sym (and-true b)
 every_from_left f b (x ∷ xs) = every_from_left f (b && f x) xs ∙ and_assoc b (f x) (all f xs)
 
--- and by std's word
-pub any_is : {A : Type 0} (f : A → Bool) (xs : List A) → list_any f xs ≡ any f xs
-unfolding any
-any_is f xs = same_from_clauses (list_any f) (any f) (λ x b. f x || b) refl (λ x xs. refl) (λ x xs. refl) xs
-
 -- the third answer counts where there are not two axes
 pub every_is : (n : ℕ) (x y z : Bool) → dimension n ≡ true → every_axis n x y z ≡ (x && (y && (eqb n 2 || z)))
 unfolding all

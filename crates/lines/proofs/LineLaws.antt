@@ -19,9 +19,10 @@ use lib.ListN.{length, get_or, take, drop, length-drop, drop_of_length-le}
 use lib.Seq.{drop-cons, take_all}
 use Rattle.basics.specs.Lists.{leading, has}
 use Rattle.basics.proofs.Bools.{by_test, clash, and_left}
+use Rattle.basics.proofs.Lists.{leading-most}
 use Rattle.lines.specs.Pieces.{onto, split}
 use Rattle.lines.specs.Lines.{without_cr, ended, lines}
-use Rattle.lines.proofs.Pieces.{leading_found, leading_unfound, leading-most, split-some, split-first, split-none, split-joined}
+use Rattle.lines.proofs.Pieces.{leading_found, leading_unfound, split-some, split-first, split-none, split-joined}
 
 -- ---- one CR at the end of a piece
 

@@ -14,14 +14,10 @@ use lib.ListN.{length, take, drop, length-append}
 use lib.Seq.{take-append_seam, drop-append-add}
 use Rattle.basics.specs.Lists.{leading, has}
 use Rattle.basics.proofs.Bools.{by_test, or_left, or_right}
+use Rattle.basics.proofs.Lists.{leading-most}
 use Rattle.lines.specs.Pieces.{onto, split}
 
 -- ---- how many bytes stand before the first b
-
-pub leading-most : (v : ℕ) (s : List ℕ) → leading v s ≤ length s
-unfolding leading
-leading-most v [] = omega arith
-leading-most v (x ∷ s) = by_test (eqb x v) (λ e. rw e (omega arith)) (λ e. rw e (omega (arith, leading-most v s)))
 
 -- the same by std's `position`
 leading-position : (v : ℕ) (s : List ℕ) → leading v s ≡ position_or_len (λ b. eqb b v) s

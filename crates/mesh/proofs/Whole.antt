@@ -19,12 +19,6 @@ use Rattle.basics.proofs.Lists.{all_at, length-tab, get_or-tab, map-tab}
 use Rattle.geometry.proofs.Axes.{few-axes}
 use Rattle.mesh.specs.Mesh.{Mesh, point_count, cell_count, broken_mesh, Whole, point_at, corners_of, corner_points}
 
--- the library's word for a test of each entry is document 01's
-pub all-list : {A : Type 0} (p : A → Bool) (xs : List A) → all p xs ≡ list_all p xs
-unfolding all
-all-list p [] = refl
-all-list p (x ∷ xs) = ap (λ (b : Bool). p x && b) (all-list p xs)
-
 -- the whole parts of a list
 whole_parts : (d x n : ℕ) → 0 < d → x < n / d → x * d + d ≤ n
 whole_parts d x n p h = rw (← suc-mul x d) ((le-div_iff_mul-le p).0 h)

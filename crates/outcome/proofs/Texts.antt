@@ -1,12 +1,12 @@
 -- What `display` and `put_refusal` leave in the buffer is the text, at its front.
 -- Assumes nothing.
-use Prim.Native.Nat.{ℕ, ◌≤◌}
+use Prim.Native.Nat.{ℕ, ◌^◌, ◌≤◌, ◌<◌}
 use native.Mathlib.Omega.{arith}
 use mathlib.Core.Path.{◌≡◌, refl, sym, ◌∙◌}
 use mathlib.Core.Option.{Option, none, some, some-ne-none}
 use mathlib.Core.List.{List, [], ◌∷◌, ◌++◌}
 use lib.Dec.{ltb}
-use lib.ListN.{length}
+use lib.ListN.{length, get_or}
 use borrow.Author.Tests.{le-ltb}
 use Rattle.std.specs.Prelude.{Ok, Err}
 use Rattle.basics.specs.Refusals.{Test, refuse, fault}
@@ -21,6 +21,7 @@ use Rattle.rows.proofs.Check.{whole, in_order}
 use Rattle.text.specs.Text.{refusal, Front}
 use Rattle.text.proofs.Laws.{over-front}
 use Rattle.display.specs.Display.{display_text, display_tests, showing, Shows, IsShort}
+use Rattle.display.proofs.Answers.{is_short}
 use Rattle.outcome.specs.Outcome.{text_or, library_text}
 
 module _ (s : GridSearch) (l : Library) (buffer exit : List ℕ) where
@@ -50,6 +51,11 @@ module _ (s : GridSearch) (l : Library) (buffer exit : List ℕ) where
   unfolding showing display_tests library_text text_or
   shown-refused e fits h = rw (damaged (fault (library_tests s l)) (refusal_number e) refl fits (fill-refused text buffer (refusal_number e) (fault (display_tests s l (length buffer))) (sym h.answers)))
 
--- the text of so few rows fits
-pub text_fits : (s : GridSearch) (l : Library) → IsShort s l → length l.keys ≤ 1024 → fault (library_tests s l) ≡ none → length (display_text s (table l)) ≤ 70804
-text_fits s l short h e = let room = (in_order (whole s l e)).room in omega (arith, short e, room.0, h)
+-- the text of so few rows fits, where it is short
+pub short_fits : (s : GridSearch) (l : Library) → IsShort s l → length l.keys ≤ 1024 → fault (library_tests s l) ≡ none → length (display_text s (table l)) ≤ 70804
+short_fits s l short h e = let room = (in_order (whole s l e)).room in omega (arith, short e, room.0, h)
+
+-- and short it is: a row takes at most 69 bytes, and the summary 148
+pub text_fits : (s : GridSearch) (l : Library) → ((i : ℕ) → get_or l.keys i 0 < 2 ^ 64) → ((i : ℕ) → get_or l.ids i 0 < 2 ^ 64) → length l.keys ≤ 1024
+    → fault (library_tests s l) ≡ none → length (display_text s (table l)) ≤ 70804
+text_fits s l k i h e = short_fits s l (is_short s l k i) h e

@@ -17,6 +17,7 @@ use Rattle.std.specs.Prelude.{Option, position}
 use Rattle.std.specs.List.{position_or_len}
 use Rattle.std.proofs.lemmas.List.Recursion.{is_position_or_len}
 use Rattle.basics.proofs.Bools.{by_test}
+use Rattle.basics.proofs.Lists.{leading-most}
 use Rattle.basics.specs.Lists.{keep, tab, over}
 use Rattle.floats.specs.Rounded.{zero_f}
 use Rattle.table.specs.declared.Row.{Row}
@@ -36,11 +37,6 @@ unfolding leading
 leading-before v [] j h = absurd (not-suc-le-zero h)
 leading-before v (x ∷ s) zero h = by_test (eqb x v) (λ e. absurd (not-suc-le-zero (rw e at h))) (λ e. e)
 leading-before v (x ∷ s) (suc j) h = by_test (eqb x v) (λ e. absurd (not-suc-le-zero (rw e at h))) (λ e. leading-before v s j (le_of_suc-le-suc (rw e at h)))
-
-pub leading-most : (v : ℕ) (s : List ℕ) → leading v s ≤ length s
-unfolding leading
-leading-most v [] = omega arith
-leading-most v (x ∷ s) = by_test (eqb x v) (λ e. rw e (omega arith)) (λ e. rw e (omega (arith, leading-most v s)))
 
 -- as the library's search tells it
 pub first-with : (v : ℕ) (s : List ℕ) {r : Option ℕ} → r ≡ position (λ j. eqb j v) s → FirstWith v s r

@@ -20,10 +20,11 @@ use Rattle.std.specs.Option.{is_some}
 use lib.Ieee.{Float}
 use Rattle.basics.specs.Lists.{all, leading}
 use Rattle.basics.proofs.Bools.{by_test, clash}
+use Rattle.basics.proofs.Lists.{leading-most}
 use Rattle.records.specs.declared.Record.{Record}
 use Rattle.text.specs.Text.{number_of}
 use Rattle.lines.specs.Pieces.{split}
-use Rattle.lines.proofs.Pieces.{leading_found, leading_unfound, leading-most, split-first, split-none, split-some}
+use Rattle.lines.proofs.Pieces.{leading_found, leading_unfound, split-first, split-none, split-some}
 use Rattle.millimetres.specs.Millimetres.{limit, value_of}
 use lib.IntN.{ℤ, nat_abs}
 use mir.Syntax.{w64}
@@ -51,11 +52,6 @@ module _ (text : List ℕ) where
 -- ---- the last field
 
 -- a test of each byte, as std's `all` has it
-pub all_listed : (p : ℕ → Bool) (xs : List ℕ) → all p xs ≡ list_all p xs
-unfolding all
-all_listed p [] = refl
-all_listed p (x ∷ xs) = rw (all_listed p xs)
-
 and-false : (a : Bool) {b : Bool} → b ≡ false → (a && b) ≡ false
 and-false true e = e
 and-false false e = refl

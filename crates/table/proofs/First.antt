@@ -45,7 +45,7 @@ rising {keys} {ids} {used} o = take-rising keys used o.in_keys (rise o)
 
 -- ---- where the keys of a container begin
 
-lead-most : (key : ℕ) (ks : List ℕ) → lead key ks ≤ length ks
+pub lead-most : (key : ℕ) (ks : List ℕ) → lead key ks ≤ length ks
 unfolding lead
 lead-most key [] = zero-le
 lead-most key (k ∷ ks) = by_test (ltb k key) (λ e. rw e (suc-le-suc (lead-most key ks))) (λ e. rw e zero-le)

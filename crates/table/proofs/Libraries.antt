@@ -124,7 +124,7 @@ module _ {A : Type 0} where
   length_over new old h = simp (length-append, length-drop) (omega arith)
 
   -- with what stands there
-  over-front : (new old : List A) → new ≡ take (length new) old → over new old ≡ old
+  pub over-front : (new old : List A) → new ≡ take (length new) old → over new old ≡ old
   unfolding over
   over-front new old e = ap (λ (a : List A). a ++ drop (length new) old) e ∙ take-append-drop (length new) old
 
@@ -135,7 +135,7 @@ module _ {A : Type 0} where
   drop_past (x ∷ new) (y ∷ old) (suc n) h = drop_past new old n (le_of_suc-le-suc h)
 
   -- and again, as far or farther
-  over-over : (new more old : List A) → length new ≤ length more → over more (over new old) ≡ over more old
+  pub over-over : (new more old : List A) → length new ≤ length more → over more (over new old) ≡ over more old
   unfolding over
   over-over new more old h = ap (λ (r : List A). more ++ r) (drop_past new old (length more) h)
 

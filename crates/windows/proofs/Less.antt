@@ -15,6 +15,7 @@ use borrow.Author.Tests.{ltb-true, ltb-false, le-ltb}
 use Rattle.basics.proofs.Bools.{by_test, clash}
 use Rattle.floats.specs.Rounded.{◌⊖◌}
 use Rattle.floats.specs.Tests.{finite}
+use Rattle.floats.proofs.Values.{neg-round}
 use Rattle.floats.proofs.Order.{le_cross, not_lt_le}
 use Rattle.floats.proofs.Roots.{to_infinity}
 
@@ -25,23 +26,10 @@ Plus nan = ⊥
 Plus (inf s) = s ≡ false
 Plus (fin s m e) = s ≡ false
 
-odd_neg : (d q k l : ℕ) → odd d true q k l ≡ neg (odd d false q k l)
-unfolding odd neg
-odd_neg d zero k l = refl
-odd_neg d (suc q) k l = refl
-
 odd_plus : (d q k l : ℕ) → Plus (odd d false q k l)
 unfolding odd
 odd_plus d zero k l = refl
 odd_plus d (suc q) k l = refl
-
-units-neg : (q k : ℕ) → units binary64 true q k ≡ neg (units binary64 false q k)
-unfolding units neg
-units-neg q k = go (ltb (q * 2 ^ k) (2 ^ (low binary64 + suc (emax binary64))))
-  where
-    go : (t : Bool) → cond t (odd 54 true q k 1074) (inf true) ≡ neg (cond t (odd 54 false q k 1074) (inf false))
-    go true = odd_neg 54 q k 1074
-    go false = refl
 
 units_plus : (q k : ℕ) → Plus (units binary64 false q k)
 unfolding units
@@ -51,20 +39,13 @@ units_plus q k = go (ltb (q * 2 ^ k) (2 ^ (low binary64 + suc (emax binary64))))
     go true = odd_plus 54 q k 1074
     go false = refl
 
--- the digits that a fraction keeps and drops do not depend on its sign
-keeps : (a b : ℕ) → (q : ℕ) × (k : ℕ) × ((s : Bool) → round binary64 s a b ≡ units binary64 s q k)
+round_plus : (a b : ℕ) → Plus (round binary64 false a b)
 unfolding round
-keeps a b =
+round_plus a b =
     let n = a * 2 ^ low binary64 in
     let k = size (n / b) - prec binary64 in
     let u = b * 2 ^ k in
-    (nearest (n / u) (compare (n % u * 2) u), k, λ s. refl)
-
-round-neg : (a b : ℕ) → round binary64 true a b ≡ neg (round binary64 false a b)
-round-neg a b = let w = keeps a b in w.2 true ∙ units-neg w.0 w.1 ∙ ap neg (sym (w.2 false))
-
-round_plus : (a b : ℕ) → Plus (round binary64 false a b)
-round_plus a b = let w = keeps a b in subst Plus (sym (w.2 false)) (units_plus w.0 w.1)
+    units_plus (nearest (n / u) (compare (n % u * 2) u)) k
 
 -- ---- turned round, and below zero
 
@@ -105,10 +86,10 @@ across (fin false m e) (fin false n d) p q = not_lt_le (fin true m e) (fin false
 
 -- of fractions
 round_flip : (a b c d : ℕ) → le (round binary64 false a b) (round binary64 false c d) ≡ true → le (round binary64 true c d) (round binary64 true a b) ≡ true
-round_flip a b c d h = rw (round-neg a b, round-neg c d) (flip (round binary64 false a b) (round binary64 false c d) (round_plus a b) (round_plus c d) h)
+round_flip a b c d h = rw (← neg-round binary64 a b, ← neg-round binary64 c d) (flip (round binary64 false a b) (round binary64 false c d) (round_plus a b) (round_plus c d) h)
 
 round_across : (a b c d : ℕ) → le (round binary64 true a b) (round binary64 false c d) ≡ true
-round_across a b c d = rw (round-neg a b) (across (round binary64 false a b) (round binary64 false c d) (round_plus a b) (round_plus c d))
+round_across a b c d = rw (← neg-round binary64 a b) (across (round binary64 false a b) (round binary64 false c d) (round_plus a b) (round_plus c d))
 
 -- ---- A / p ≤ A' / p', each less B / q
 
@@ -157,7 +138,7 @@ neg-number (fin s m e) h = refl
 
 round_number : (s : Bool) (a b : ℕ) → is_nan (round binary64 s a b) ≡ false
 round_number false a b = plus_number _ (round_plus a b)
-round_number true a b = ap is_nan (round-neg a b) ∙ neg-number _ (plus_number _ (round_plus a b))
+round_number true a b = ap is_nan (sym (neg-round binary64 a b)) ∙ neg-number _ (plus_number _ (round_plus a b))
 
 sum_number : (s : Bool) (a : ℕ) (t : Bool) (b c : ℕ) → is_nan (sum binary64 s a t b c) ≡ false
 unfolding sum

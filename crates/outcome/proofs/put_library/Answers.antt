@@ -2,7 +2,7 @@
 -- Assumes nothing.
 use Rattle.std.proofs.Common.{◌≡◌, length, arith, rules, sym}
 use Rattle.table.specs.Lent.{lent}
-use Rattle.outcome.proofs.Texts.{shown-length, shown-refused, text_fits}
+use Rattle.outcome.proofs.Texts.{shown-length, shown-refused, short_fits}
 use Rattle.outcome.proofs.put_library.Goals as goal
 
 pub returns-in-Ok : goal.returns-in-Ok
@@ -12,6 +12,6 @@ pub returns-in-Err : goal.returns-in-Err
 returns-in-Err c =
     let a = c.args in
     let room : 70804 ≡ length a.text.now = search rules in
-    let fits = text_fits a.sheet (lent a.library) c.display.ensures.most c.requires in
+    let fits = short_fits a.sheet (lent a.library) c.display.ensures.most c.requires in
     let same = shown-refused a.sheet (lent a.library) a.text.now c.display.new.buffer c.in-Err.reason (λ e. omega (arith, fits e, room)) (rw (sym c.in-Err.is) c.display.ensures.shows) in
     rw same c.put_refused.ensures

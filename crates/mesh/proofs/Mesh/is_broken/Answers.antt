@@ -2,7 +2,7 @@
 use Rattle.std.proofs.Common.{ℕ, not, ap, sym, ◌∙◌, ltb, eq-eqb, rules, tests}
 use Rattle.std.proofs.lemmas.Iterator.{YieldsList-from_slice}
 use Rattle.std.proofs.lemmas.Iterator.Search.{all_from_yields_List}
-use Rattle.mesh.proofs.Whole.{all-list}
+use Rattle.basics.proofs.Lists.{all-list}
 use Rattle.mesh.specs.Mesh.{broken_mesh}
 use Rattle.mesh.proofs.Mesh.is_broken.Goals as goal
 
