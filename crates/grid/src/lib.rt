@@ -114,6 +114,7 @@ fn share(ndiv_long: u64, long: Longest, axis: usize, delta: f64) -> u64
 }
 
 // The divisions of a box whose longest axis has `ndiv_long` of them.
+// Kept: document 01 gives the corners as two points, and so are they in a sheet and in an index: no caller has them in one.
 pub fn num_divisions(ndim: Dimension, ndiv_long: u64, xmin: Position, xmax: Position) -> Divisions
     requires most { ndiv_long ≤ 1024 }
     ensures { result ≡ divisions_of (num_divisions ndiv_long (coords ndim.n xmin) (coords ndim.n xmax)) }
@@ -140,6 +141,7 @@ fn is_beyond(xmin: f64, xmax: f64, x: f64) -> bool
 }
 
 // Whether a position is outside the box on some axis.
+// Kept: document 01 gives the corners as two points, and so are they in a sheet and in an index: no caller has them in one.
 pub fn is_outside(ndim: Dimension, xmin: Position, xmax: Position, x: Position) -> bool
     ensures { result ≡ outside (coords ndim.n xmin) (coords ndim.n xmax) (coords ndim.n x) }
 {
@@ -189,6 +191,7 @@ fn combined(ndiv: Divisions, pivot: Pivot) -> u64
 
 // The container that a position falls into, or none where a ratio exceeds its divisions. In 2D the third axis, with one division
 // and the index 0, adds nothing.
+// Kept: dimension and divisions stand in a sheet as C hands it in; a struct that holds the fact would be made at each call.
 pub fn calc_container_key(
     ndim: Dimension,
     side_length: f64,
@@ -211,6 +214,7 @@ pub fn calc_container_key(
 }
 
 // How many containers there are.
+// Kept: dimension and divisions stand in a sheet as C hands it in; a struct that holds the fact would be made at each call.
 pub fn container_count(ndim: Dimension, ndiv: Divisions) -> u64
     requires divisions { all division (counts ndim.n ndiv) ≡ true }
     ensures { result ≡ containers (counts ndim.n ndiv) }
@@ -220,6 +224,7 @@ pub fn container_count(ndim: Dimension, ndiv: Divisions) -> u64
 }
 
 // The indices of a container. In 2D the third is 0.
+// Kept: dimension and divisions stand in a sheet as C hands it in; a struct that holds the fact would be made at each call.
 pub fn pivot_indices(ndim: Dimension, ndiv: Divisions, key: ContainerKey) -> Pivot
     requires divisions { all division (counts ndim.n ndiv) ≡ true }
     requires key_in_range { key.0 < containers (counts ndim.n ndiv) }
@@ -243,6 +248,7 @@ fn middle(side_length: f64, xmin: f64, i: u64) -> f64
 }
 
 // The centre of a container.
+// Kept: dimension and divisions stand in a sheet as C hands it in; a struct that holds the fact would be made at each call.
 pub fn container_center(
     ndim: Dimension,
     side_length: f64,
