@@ -36,6 +36,7 @@ pub(crate) struct Walk<'a> {
     filter: Filter,
     ready: Ready,
     ghost known: { Known sheet (lent library) ready.place filter },
+    ghost made: { MadeFor sheet ready },
 }
 
 impl Walk<'_> {
@@ -49,13 +50,15 @@ impl Walk<'_> {
     {
         match self.counts {
             Some(counts) => first + counts[place] as usize,
-            None => table::end_of(&self.library.keys[..self.library.used], first),
+            None => {
+                let keys = &self.library.keys[first..self.library.used];
+                first + table::run_of(keys, keys[0])
+            }
         }
     }
 
     // Whether a row counts, where its container is near.
     fn row_counts(self, row: usize) -> bool
-        requires made { MadeFor self.sheet self.ready }
         requires in_use { row < self.library.used }
         requires near { container_near self.sheet (asked self.sheet.ndim self.ready.place) (get_or self.library.keys.now row 0) ≡ true }
         ensures { result ≡ is_on self.entry.sheet (asked self.entry.sheet.ndim self.entry.ready.place) self.entry.filter (row_at (lent self.entry.library) row) }
@@ -72,7 +75,6 @@ impl Walk<'_> {
     // no place would be left for one more. Each row is written there, and stays where it counts, so that no branch depends on
     // that.
     fn mark_rows(self, first: usize, end: usize, marked: usize, marks: &mut [u16]) -> Option<usize>
-        requires made { MadeFor self.sheet self.ready }
         requires in_use { (first ≤ end) × (end ≤ self.library.used) }
         requires near { AllNear self.sheet self.ready.place self.library.keys.now first end }
         requires gathered { Gathered self.sheet self.ready.place self.filter (lent self.library) first marked marks.old }
@@ -99,7 +101,6 @@ impl Walk<'_> {
         marked: usize,
         marks: &mut [u16],
     ) -> Option<usize>
-        requires made { MadeFor self.sheet self.ready }
         requires in_use { first < self.library.used }
         requires end { end ≡ end_from self.library.keys.now self.library.used first }
         requires gathered { Gathered self.sheet self.ready.place self.filter (lent self.library) first marked marks.old }
@@ -117,7 +118,6 @@ impl Walk<'_> {
     // Goes on over the containers, and puts their rows that count behind the marked ones: up to the last row, or to a container
     // with which no place would be left for one more.
     fn gather(&self, from: Reached, marks: &mut [u16]) -> Reached
-        requires made { MadeFor self.now.sheet self.now.ready }
         requires walked_from { Walked self.now.sheet self.now.ready.place self.now.filter (lent self.now.library) self.now.counts from marks.old }
         ensures walked { Walked self.now.sheet self.now.ready.place self.now.filter (lent self.now.library) self.now.counts result marks.new }
         ensures full { result.row < self.now.library.used → length marks.new ≤ self.now.library.used }
@@ -143,7 +143,6 @@ impl Walk<'_> {
     // taken where it is called only, which is why the compiler may not merge it into its caller.
     #[inline(never)]
     fn list_many(&self, from: Reached, few: &[u16], list: &mut [u64]) -> Result<usize, Refusal>
-        requires made { MadeFor self.now.sheet self.now.ready }
         requires walked { Walked self.now.sheet self.now.ready.place self.now.filter (lent self.now.library) self.now.counts from few.now }
         ensures { Out (ids_of (is_on self.now.sheet (asked self.now.sheet.ndim self.now.ready.place) self.now.filter) (table (lent self.now.library))) list.old result list.new }
     {
@@ -156,7 +155,6 @@ impl Walk<'_> {
     // The ids of the rows on the place, ascending, once each: how many they are, or 14.
     #[inline(always)]
     fn list(&self, list: &mut [u64]) -> Result<usize, Refusal>
-        requires made { MadeFor self.now.sheet self.now.ready }
         requires counted { Counted self.now.library.keys.now self.now.library.used self.now.counts }
         ensures { Out (ids_of (is_on self.now.sheet (asked self.now.sheet.ndim self.now.ready.place) self.now.filter) (table (lent self.now.library))) list.old result list.new }
     {
