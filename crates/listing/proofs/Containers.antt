@@ -13,15 +13,10 @@ use Rattle.std.specs.Prelude.{Option, Some, None}
 use borrow.Author.Tests.{eqb-true, ltb-true, ltb-false}
 use Rattle.basics.proofs.Bools.{by_test}
 use Rattle.table.specs.Rows.{run}
-use Rattle.table.proofs.Runs.{run-one}
+use Rattle.table.proofs.Runs.{run-one, run-most}
 use Rattle.listing.specs.Posts.{end_from, Runs, CountedFrom}
 
 -- ---- a run of equal keys
-
-run-upto : (k : ℕ) (ks : List ℕ) → run k ks ≤ length ks
-unfolding run
-run-upto k [] = omega arith
-run-upto k (j ∷ ks) = let ih = run-upto k ks in by_test (eqb j k) (λ e. rw e (omega arith)) (λ e. rw e (omega arith))
 
 run-same : (k : ℕ) (ks : List ℕ) (i : ℕ) → i < run k ks → get_or ks i 0 ≡ k
 unfolding run
@@ -50,7 +45,7 @@ module _ (keys : List ℕ) (used first : ℕ) (k : used ≤ length keys) (h : fi
   end_past = omega (arith, end_behind)
 
   pub end_upto : end_from keys used first ≤ used
-  end_upto = omega (arith, run-upto key (drop first (take used keys)), length-slice first used keys k)
+  end_upto = omega (arith, run-most key (drop first (take used keys)), length-slice first used keys k)
 
   pub end_alike : (i : ℕ) → first ≤ i → i < end_from keys used first → get_or keys i 0 ≡ key
   end_alike i a b =

@@ -36,7 +36,6 @@ pub(crate) struct Walk<'a> {
     filter: Filter,
     ready: Ready,
     ghost known: { Known sheet (lent library) ready.place filter },
-    ghost made: { MadeFor sheet ready },
 }
 
 impl Walk<'_> {
@@ -58,7 +57,9 @@ impl Walk<'_> {
     }
 
     // Whether a row counts, where its container is near.
+    // Kept: no ghost field of `Walk`: the fact goes by the kind of place, and antt takes no such fact for a proposition.
     fn row_counts(self, row: usize) -> bool
+        requires made { MadeFor self.sheet self.ready }
         requires in_use { row < self.library.used }
         requires near { container_near self.sheet (asked self.sheet.ndim self.ready.place) (get_or self.library.keys.now row 0) ≡ true }
         ensures { result ≡ is_on self.entry.sheet (asked self.entry.sheet.ndim self.entry.ready.place) self.entry.filter (row_at (lent self.entry.library) row) }
@@ -74,7 +75,9 @@ impl Walk<'_> {
     // Puts the rows of a near container that count behind the marked ones: answers how many are marked then, or nothing where
     // no place would be left for one more. Each row is written there, and stays where it counts, so that no branch depends on
     // that.
+    // Kept: no ghost field of `Walk`: the fact goes by the kind of place, and antt takes no such fact for a proposition.
     fn mark_rows(self, first: usize, end: usize, marked: usize, marks: &mut [u16]) -> Option<usize>
+        requires made { MadeFor self.sheet self.ready }
         requires in_use { (first ≤ end) × (end ≤ self.library.used) }
         requires near { AllNear self.sheet self.ready.place self.library.keys.now first end }
         requires gathered { Gathered self.sheet self.ready.place self.filter (lent self.library) first marked marks.old }
@@ -94,6 +97,7 @@ impl Walk<'_> {
     }
 
     // The same for a container that may be far: then none of its rows counts, and it is passed at once.
+    // Kept: no ghost field of `Walk`: the fact goes by the kind of place, and antt takes no such fact for a proposition.
     fn mark_container(
         self,
         first: usize,
@@ -101,6 +105,7 @@ impl Walk<'_> {
         marked: usize,
         marks: &mut [u16],
     ) -> Option<usize>
+        requires made { MadeFor self.sheet self.ready }
         requires in_use { first < self.library.used }
         requires end { end ≡ end_from self.library.keys.now self.library.used first }
         requires gathered { Gathered self.sheet self.ready.place self.filter (lent self.library) first marked marks.old }
@@ -117,7 +122,9 @@ impl Walk<'_> {
 
     // Goes on over the containers, and puts their rows that count behind the marked ones: up to the last row, or to a container
     // with which no place would be left for one more.
+    // Kept: no ghost field of `Walk`: the fact goes by the kind of place, and antt takes no such fact for a proposition.
     fn gather(&self, from: Reached, marks: &mut [u16]) -> Reached
+        requires made { MadeFor self.now.sheet self.now.ready }
         requires walked_from { Walked self.now.sheet self.now.ready.place self.now.filter (lent self.now.library) self.now.counts from marks.old }
         ensures walked { Walked self.now.sheet self.now.ready.place self.now.filter (lent self.now.library) self.now.counts result marks.new }
         ensures full { result.row < self.now.library.used → length marks.new ≤ self.now.library.used }
@@ -141,8 +148,10 @@ impl Walk<'_> {
 
     // Goes on where there was no room for more than the `few` marks: here every row has room. The 128 KiB of its marks are
     // taken where it is called only, which is why the compiler may not merge it into its caller.
+    // Kept: no ghost field of `Walk`: the fact goes by the kind of place, and antt takes no such fact for a proposition.
     #[inline(never)]
     fn list_many(&self, from: Reached, few: &[u16], list: &mut [u64]) -> Result<usize, Refusal>
+        requires made { MadeFor self.now.sheet self.now.ready }
         requires walked { Walked self.now.sheet self.now.ready.place self.now.filter (lent self.now.library) self.now.counts from few.now }
         ensures { Out (ids_of (is_on self.now.sheet (asked self.now.sheet.ndim self.now.ready.place) self.now.filter) (table (lent self.now.library))) list.old result list.new }
     {
@@ -153,8 +162,10 @@ impl Walk<'_> {
     }
 
     // The ids of the rows on the place, ascending, once each: how many they are, or 14.
+    // Kept: no ghost field of `Walk`: the fact goes by the kind of place, and antt takes no such fact for a proposition.
     #[inline(always)]
     fn list(&self, list: &mut [u64]) -> Result<usize, Refusal>
+        requires made { MadeFor self.now.sheet self.now.ready }
         requires counted { Counted self.now.library.keys.now self.now.library.used self.now.counts }
         ensures { Out (ids_of (is_on self.now.sheet (asked self.now.sheet.ndim self.now.ready.place) self.now.filter) (table (lent self.now.library))) list.old result list.new }
     {
