@@ -50,8 +50,8 @@ impl Walk<'_> {
         match self.counts {
             Some(counts) => first + counts[place] as usize,
             None => {
-                let keys = &self.library.keys[first..self.library.used];
-                first + table::run_of(keys, keys[0])
+                let keys = self.library.keys;
+                first + table::run_of(&keys[first..self.library.used], keys[first])
             }
         }
     }
