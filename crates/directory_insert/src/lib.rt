@@ -20,6 +20,7 @@ use grid_search::GridSearch;
 use table::{ItemId, LibraryMut, Mark, Row};
 
 // The place of a key among those of places, which ascend, or else where it would stand.
+// Kept: a struct of keys that ascend would be made of a slice at each call, and read by index as the slice is.
 fn place_of(keys: &[u64], key: u64) -> Result<usize, usize>
     requires { IsNonDecreasing keys.now }
     ensures { FindsPlace key keys.now result }
@@ -33,6 +34,7 @@ fn place_of(keys: &[u64], key: u64) -> Result<usize, usize>
 }
 
 // How many places will be in use once a mark is in each container of a list.
+// Kept: a struct of keys that ascend would be made of a slice at each call, and read by index as the slice is.
 fn places_after(keys: &[u64], into: &[u64]) -> usize
     requires { IsNonDecreasing keys.now }
     ensures { PlacesAfter keys.now into.now result }

@@ -33,6 +33,7 @@ fn checked_counts<'a>(
 
 // Lists the marks on a place, as `listing::search_on` does, and gives the same. Refused with the first of 24, 13, 29, 16, 3, 15
 // and 14 that applies, the list as it was.
+// Kept: what a listing is asked with, in the order of the request: a struct of some of it would be taken apart at once.
 pub fn search_on(
     sheet: GridSearch,
     library: Library,
@@ -50,6 +51,7 @@ pub fn search_on(
 
 // Lists the marks on a place that is given by a number and slices, as `listing::search_on_place` does, and gives the same, with 29
 // directly after 13.
+// Kept: C names a place by a number, with its slices apart; 16 is judged by the number, and then 2 by the slices.
 pub fn search_on_place(
     sheet: GridSearch,
     library: Library,

@@ -324,6 +324,7 @@ pub fn point_cylinder_distance(a: &[f64], b: &[f64], radius: f64, p: &[f64]) -> 
 }
 
 // Twice the area of the triangle xa, xb, xc, below zero where they turn clockwise: `a2` in gemlab.
+// Kept: corners by gemlab's names, in which its formulas are written: a struct's name would stand before each of them.
 #[tactic(auto, unfolding(crate::specs::Cells::doubled_area))]
 pub fn doubled_area(xa: Position, xb: Position, xc: Position) -> f64
     ensures { result ≡ doubled_area xa xb xc }
@@ -333,6 +334,7 @@ pub fn doubled_area(xa: Position, xb: Position, xc: Position) -> f64
 
 // The three coordinates of xp in the triangle xa, xb, xc: with xp in the place of each corner gemlab's text works out the very
 // terms of `a2`.
+// Kept: corners by gemlab's names, in which its formulas are written: a struct's name would stand before each of them.
 #[tactic(auto, unfolding(crate::specs::Cells::triangle_coords))]
 pub fn triangle_coords(xa: Position, xb: Position, xc: Position, xp: Position) -> Zeta
     ensures { result ≡ triangle_coords xa xb xc xp }
@@ -361,6 +363,7 @@ pub fn in_triangle(zeta: Zeta) -> bool
 }
 
 // The four coordinates of xp in the tetrahedron xa, xb, xc, xd.
+// Kept: corners by gemlab's names, in which its formulas are written: a struct's name would stand before each of them.
 #[tactic(auto, unfolding(crate::specs::Cells::tetrahedron_coords))]
 pub fn tetrahedron_coords(
     xa: Position,

@@ -37,6 +37,7 @@ pub enum Place {
 }
 
 // Which of the marks on a place are kept: all, or those whose coordinate on an axis lies in a closed range.
+// Kept: calls read `Filter::Everything` and `Filter::Range`, the request's words; an Option of a range would read `None`.
 #[derive(Clone, Copy)]
 pub enum Filter {
     Everything,
@@ -44,6 +45,7 @@ pub enum Filter {
 }
 
 // What turns a place and a filter away: 16, 3, and 15 where a row is in use.
+// Kept: a sheet has its number of axes as C hands it in; a type that holds this would be made of the sheet at each call.
 #[tactic(auto, using(crate::proofs::Places::right_lengths), unfolding(crate::specs::Place::place_tests, basics::specs::Refusals::fault))]
 fn place_fault(sheet: GridSearch, used: usize, place: Place, filter: Filter) -> Result<(), Refusal>
     requires { dimension sheet.ndim ≡ true }
@@ -66,6 +68,7 @@ fn place_fault(sheet: GridSearch, used: usize, place: Place, filter: Filter) -> 
 
 // The listing of `search_on`, past the check of the library. `counts` says how many rows each container has, in their order,
 // where that is at hand. It becomes part of each caller, whose frame then holds the sheet and the library once.
+// Kept: what a listing is asked with, in the order of the request: a struct of some of it would be taken apart at once.
 #[inline(always)]
 pub fn search_checked_on(
     sheet: GridSearch,
@@ -85,6 +88,7 @@ pub fn search_checked_on(
 
 // The listing of `search_on_place`, past the check of the library, with `counts` and its frame as in
 // `search_checked_on`.
+// Kept: C names a place by a number, with its slices apart; 16 is judged by the number, and then 2 by the slices.
 #[inline(always)]
 pub fn search_checked_on_place(
     sheet: GridSearch,
@@ -121,6 +125,7 @@ pub fn search_checked_on_place(
 // 16 (a circle in 3D, a cylinder or a plane in 2D, a filter on an axis that is not there), 3 (a coordinate, a radius or an end
 // of the range is none), 15 (the ends of a line or a cylinder are too close, while a row is in use), 14 (the list is shorter
 // than the listing). 2 cannot come up: the place holds positions, of whatever dimension.
+// Kept: what a listing is asked with, in the order of the request: a struct of some of it would be taken apart at once.
 pub fn search_on(
     sheet: GridSearch,
     library: Library,
@@ -138,6 +143,7 @@ pub fn search_on(
 // the dimension) between 16 and 3. The place is 0 for the line through a and b, 1 for the circle of centre a and radius
 // `number`, 2 for the cylinder of axis a, b and radius `number`, and 3, 4 and 5 for the planes xy, yz and xz at the coordinate
 // `number`; any other is 16. A slice that the place has no use for is not read.
+// Kept: C names a place by a number, with its slices apart; 16 is judged by the number, and then 2 by the slices.
 pub fn search_on_place(
     sheet: GridSearch,
     library: Library,

@@ -208,6 +208,7 @@ fn list_marked(marks: &mut [u16], ids: &[u64], list: &mut [u64]) -> Result<usize
 }
 
 // The ids of the rows on a place, ascending, once each: how many they are, or 14.
+// Kept: what a listing is asked with, in the order of the request: a struct of some of it would be taken apart at once.
 #[inline(always)]
 pub(crate) fn list_on(
     sheet: GridSearch,
