@@ -14,7 +14,7 @@ ghost use Rattle.directory.specs.Calls.{directory_tests, filling};
 use basics::Refusal;
 use directory::Directory;
 use grid_search::GridSearch;
-use listing::{Filter, Place};
+use listing::{Filter, Place, SoundLibrary};
 use table::Library;
 
 // How many rows each container has, in their order, of a library that has a directory: 24, 13 (both cover the directory's
@@ -46,7 +46,12 @@ pub fn search_on(
         list.old (listing sheet (lent library.entry) (asked sheet.ndim place) filter list.old)) result list.new }
 {
     let counts = checked_counts(sheet, library, directory)?;
-    listing::search_checked_on(sheet, library, Some(counts), place, filter, list)
+    let of = SoundLibrary {
+        sheet,
+        library,
+        counts: Some(counts),
+    };
+    listing::search_checked_on(of, place, filter, list)
 }
 
 // Lists the marks on a place that is given by a number and slices, as `listing::search_on_place` does, and gives the same, with 29
@@ -67,15 +72,10 @@ pub fn search_on_place(
         list.old (listing sheet (lent library.entry) (asked_of place a.now b.now number) filter list.old)) result list.new }
 {
     let counts = checked_counts(sheet, library, directory)?;
-    listing::search_checked_on_place(
+    let of = SoundLibrary {
         sheet,
         library,
-        Some(counts),
-        place,
-        a,
-        b,
-        number,
-        filter,
-        list,
-    )
+        counts: Some(counts),
+    };
+    listing::search_checked_on_place(of, place, a, b, number, filter, list)
 }

@@ -12,7 +12,7 @@ ghost use Rattle.listing.specs.Listing.{ids_of};
 ghost use Rattle.listing.specs.Posts.{end_from, CountedFrom, Counted, Known, Gathered, Marks, AllNear, Walked, Out};
 
 use crate::near::Ready;
-use crate::{Filter, Place, near};
+use crate::{Filter, Place, SoundLibrary, near};
 use basics::Refusal;
 use grid::ContainerKey;
 use grid_search::GridSearch;
@@ -211,23 +211,20 @@ fn list_marked(marks: &mut [u16], ids: &[u64], list: &mut [u64]) -> Result<usize
 // Kept: what a listing is asked with, in the order of the request: a struct of some of it would be taken apart at once.
 #[inline(always)]
 pub(crate) fn list_on(
-    sheet: GridSearch,
-    library: Library,
-    counts: Option<&[u64]>,
+    of: SoundLibrary,
     place: Place,
     filter: Filter,
     list: &mut [u64],
 ) -> Result<usize, Refusal>
-    requires known { Known sheet (lent library) place filter }
-    requires counted { Counted library.keys.now library.used counts }
-    ensures { Out (ids_of (is_on sheet (asked sheet.ndim place) filter) (table (lent library.entry))) list.old result list.new }
+    requires { Known of.sheet (lent of.library) place filter }
+    ensures { Out (ids_of (is_on of.entry.sheet (asked of.entry.sheet.ndim place) filter) (table (lent of.entry.library))) list.old result list.new }
 {
     let walk = Walk {
-        sheet,
-        library,
-        counts,
+        sheet: of.sheet,
+        library: of.library,
+        counts: of.counts,
         filter,
-        ready: near::made_ready(sheet, place),
+        ready: near::made_ready(of.sheet, place),
     };
     walk.list(list)
 }
