@@ -1,6 +1,6 @@
 -- What the inner functions of a listing ask and ensure.
 -- Assumes nothing.
-use Rattle.std.specs.Prelude.{ℕ, suc, ◌+◌, ◌≤◌, ◌<◌, ◌≡◌, true, false, List, [], ◌∷◌, map, ltb, length, get_or, take, drop, Float, Option, Some, None, Result}
+use Rattle.std.specs.Prelude.{ℕ, ◌+◌, ◌≤◌, ◌<◌, ◌≡◌, true, false, List, [], ◌∷◌, map, ltb, length, get_or, take, drop, Float, Option, Some, None, Result}
 use denote.Ref.{Bor}
 use Rattle.basics.specs.Lists.{keep}
 use Rattle.basics.specs.Refusals.{refuse, fault}
