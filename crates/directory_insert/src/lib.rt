@@ -87,12 +87,7 @@ fn enter_row(directory: &mut DirectoryMut, rows: usize, key: u64)
 }
 
 // Stores a mark in each container of a list, and brings the directory up to date.
-fn store_all(
-    library: &mut LibraryMut,
-    directory: &mut DirectoryMut,
-    into: &[u64],
-    mark: Mark,
-)
+fn store_all(library: &mut LibraryMut, directory: &mut DirectoryMut, into: &[u64], mark: Mark)
     requires { TakesAll (put_in mark.id.0 mark.at into.now) (lent_mut library.old) (kept_mut directory.old) }
     ensures stores { BecomesBoth (put_in mark.id.0 mark.at into.now) (lent_mut library.old) (kept_mut directory.old) (lent_mut library.new) (kept_mut directory.new) }
     ensures same_lists { SameLists library.old library.new }

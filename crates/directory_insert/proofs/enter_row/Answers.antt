@@ -46,7 +46,7 @@ offset_bounds-directory-at-in-Err c =
 pub slice_bounds-move_up-count-in-Err : goal.slice_bounds-move_up-count-in-Err
 slice_bounds-move_up-count-in-Err c =
     let most = enter-most c.args.key c.args.rows _ c.requires (at_of c.as_directory-before.ensures c.args.key c.in-Err.ensures.0) in
-    most
+    omega (arith, most)
 
 pub slice_bounds-move_up-start-in-Err : goal.slice_bounds-move_up-start-in-Err
 slice_bounds-move_up-start-in-Err c =
