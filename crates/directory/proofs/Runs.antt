@@ -1,10 +1,10 @@
 -- The rows of one container, from its first on: where they end, and how the entries of rows begin.
 -- Assumes nothing.
-use Prim.Native.Nat.{ℕ, zero, suc, ◌+◌, ◌-◌, ◌≤◌, ◌<◌, zero-le, suc-le-suc}
+use Prim.Native.Nat.{ℕ, zero, suc, ◌+◌, ◌-◌, ◌≤◌, ◌<◌}
 use native.Mathlib.Nat.{le_of_suc-le-suc, not-suc-le-zero}
 use native.Mathlib.Decide.{dec_le}
 use native.Mathlib.Omega.{arith}
-use mathlib.Core.Path.{◌≡◌, refl, sym, ap, ap₂, ◌∙◌}
+use mathlib.Core.Path.{◌≡◌, refl, sym, ap, ◌∙◌}
 use mathlib.Core.Bool.{true, false}
 use mathlib.Core.List.{List, [], ◌∷◌}
 use lib.Dec.{eqb}
@@ -13,6 +13,7 @@ use lib.Seq.{drop-cons, get_or-drop, drop-drop}
 use borrow.Author.Tests.{eqb-true, eqb-false, eq-eqb}
 use Rattle.basics.proofs.Bools.{by_test, clash, and_left, and_right}
 use Rattle.table.specs.Rows.{run}
+use Rattle.table.proofs.Runs.{run-most}
 use Rattle.std.specs.List.Sorted.{IsNonDecreasing}
 use Rattle.directory.specs.declared.Entry.{Entry}
 use Rattle.directory.specs.Entries.{entry, entries_from, same_entry}
@@ -20,11 +21,6 @@ use Rattle.directory.specs.Posts.{leads}
 use Rattle.directory.proofs.Entries.{entries-front}
 
 -- ---- how many keys from the front are one key
-
-pub run-most : (k : ℕ) (ks : List ℕ) → run k ks ≤ length ks
-unfolding run
-run-most k [] = zero-le
-run-most k (j ∷ ks) = let ih = run-most k ks in by_test (eqb j k) (λ e. rw e (suc-le-suc ih)) (λ e. rw e zero-le)
 
 run_in : (k : ℕ) (ks : List ℕ) (i : ℕ) → i < run k ks → get_or ks i 0 ≡ k
 unfolding run
@@ -70,17 +66,17 @@ module _ (keys : List ℕ) (next : ℕ) (h : next < length keys) where
       ∙ ap (λ (ks : List ℕ). entry key next size ∷ entries_from (next + size) ks) (drop-drop (run key behind) (suc next) keys ∙ ap (λ (n : ℕ). drop n keys) far)
 
   -- as the walk from container to container takes them
-  pub front-end : {end : ℕ} → end ≡ next + run key rows → entries_from next rows ≡ entry key next (end - next) ∷ entries_from end (drop end keys)
-  front-end {end} e =
-      let z : end ≡ next + size = e ∙ ap (λ (n : ℕ). next + n) size-run in
-      let n : size ≡ end - next = omega arith in
-      front ∙ ap₂ (λ (i j : ℕ). entry key next i ∷ entries_from j (drop j keys)) n (sym z)
+  pub front-run : {n : ℕ} → n ≡ run key rows → entries_from next rows ≡ entry key next n ∷ entries_from (next + n) (drop (next + n) keys)
+  front-run {n} e = front ∙ ap (λ (i : ℕ). entry key next i ∷ entries_from (next + i) (drop (next + i) keys)) (sym (e ∙ size-run))
 
   size_behind : length behind ≡ length keys - suc next
   size_behind = length-drop (suc next) keys
 
   pub size-most : next + size ≤ length keys
   size-most = omega (arith, run-most key behind, size_behind)
+
+  pub run-inside : {n : ℕ} → n ≡ run key rows → next + n ≤ length keys
+  run-inside e = omega (arith, e, size-run, size-most)
 
   at_behind : (i : ℕ) → get_or behind i 0 ≡ get_or keys (suc next + i) 0
   at_behind i = get_or-drop (suc next) keys i 0

@@ -40,11 +40,13 @@ impl Iterator for Containers<'_> {
             return None;
         }
         let first = self.next;
-        self.next = table::end_of(self.keys, first);
+        let key = self.keys[first];
+        let count = table::run_of(&self.keys[first..], key);
+        self.next = first + count;
         Some(Entry {
-            key: self.keys[first],
+            key,
             first: first as u64,
-            count: (self.next - first) as u64,
+            count: count as u64,
         })
     }
 }

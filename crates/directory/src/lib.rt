@@ -34,6 +34,7 @@ pub struct Entry {
 impl Entry {
     // Whether it is that of the rows from `next` on, told by the keys of the rows in use: it begins there, and has all the rows
     // of its key. Keys do not descend, so the rows at its ends and the one behind it tell.
+    // Kept: a struct of keys that ascend would be made of a slice at each call, and read by index as the slice is.
     fn leads(self, keys: &[u64], next: usize) -> bool
         requires rising { IsNonDecreasing keys.now }
         requires within { next ≤ length keys.now }
@@ -142,6 +143,7 @@ impl Directory<'_> {
 
     // Whether the places in use are the directory of rows with these keys: one place after the other, and of the rows only
     // those at the ends of places are read.
+    // Kept: a struct of keys that ascend would be made of a slice at each call, and read by index as the slice is.
     fn is_match(self, keys: &[u64]) -> bool
         requires rising { IsNonDecreasing keys.now }
         requires room { PlaceRoom (kept self) self.used }
@@ -183,6 +185,7 @@ impl DirectoryMut<'_> {
     }
 
     // Writes an entry at a place.
+    // Kept: no conversion by hand: an entry's three numbers go into the three lists.
     pub fn write_entry(&mut self, at: usize, entry: Entry)
         requires { PlaceRoom (kept_mut self.old) (at + 1) }
         ensures writes { kept_mut self.new ≡ placed at entry (kept_mut self.old) }
@@ -231,6 +234,7 @@ impl DirectoryMut<'_> {
 }
 
 // What turns a library and the lists of its directory away, whatever stands in their places: 24 or 13.
+// Kept: sheet, rows and directory are lent apart, in other calls to be changed: a struct of all would be made in each call.
 fn lists_fault(sheet: GridSearch, library: Library, directory: Directory) -> Result<(), Refusal>
     ensures { fault_in result ≡ fault (both_tests sheet (lent library.entry) (kept directory.entry)) }
 {
@@ -245,6 +249,7 @@ fn lists_fault(sheet: GridSearch, library: Library, directory: Directory) -> Res
 }
 
 // What turns a library and its directory away: 24, 13 or 29. 29 is judged by the places and the rows at their ends.
+// Kept: sheet, rows and directory are lent apart, in other calls to be changed: a struct of all would be made in each call.
 pub fn directory_fault(
     sheet: GridSearch,
     library: Library,
@@ -260,6 +265,7 @@ pub fn directory_fault(
 }
 
 // Looks a key up: its place, if it has one, and how many places were read, at most 17. Refused with 24, 13 or 29.
+// Kept: sheet, rows and directory are lent apart, in other calls to be changed: a struct of all would be made in each call.
 pub fn look_up(
     sheet: GridSearch,
     library: Library,
@@ -273,6 +279,7 @@ pub fn look_up(
 }
 
 // What turns a build away: 24, 13 or 12. 12 is judged before anything is written.
+// Kept: sheet, rows and directory are lent apart, in other calls to be changed: a struct of all would be made in each call.
 fn build_fault(sheet: GridSearch, library: Library, directory: Directory) -> Result<(), Refusal>
     ensures { fault_in result ≡ fault (build_tests sheet (lent library.entry) (kept directory.entry)) }
 {

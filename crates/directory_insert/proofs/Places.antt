@@ -1,8 +1,9 @@
 -- The three lists of a directory: firsts that move up by one, one more row in each list, and the entries that the lists hold.
 -- Assumes nothing.
-use Prim.Native.Nat.{ℕ, zero, suc, ◌+◌, ◌≤◌, ◌<◌}
-use native.Mathlib.Nat.{le_of_suc-le-suc, not-suc-le-zero}
+use Prim.Native.Nat.{ℕ, zero, suc, ◌+◌, ◌-◌, ◌≤◌, ◌<◌}
+use native.Mathlib.Nat.{le_of_suc-le-suc, not-suc-le-zero, suc-add, zero-add}
 use native.Mathlib.Numerals.{add-one}
+use borrow.Rule.Slice.PartMut.{put_mid}
 use native.Mathlib.Omega.{arith}
 use mathlib.Core.Path.{◌≡◌, refl, sym, ap, ap₂, ◌∙◌}
 use mathlib.Core.Bool.{true, false}
@@ -31,6 +32,23 @@ stepped-front zero [] k = refl
 stepped-front (suc n) [] k = absurd (not-suc-le-zero k)
 stepped-front zero (x ∷ l) k = refl
 stepped-front (suc n) (x ∷ l) k = ap (λ (r : List ℕ). suc x ∷ r) (stepped-front n l (le_of_suc-le-suc k))
+
+pub stepped-all : (l : List ℕ) → stepped 0 (length l) l ≡ map suc l
+unfolding stepped
+stepped-all [] = refl
+stepped-all (x ∷ l) = ap (λ (r : List ℕ). suc x ∷ r) (stepped-all l)
+
+-- after the part from an index up to another has moved up
+stepped-part : (at m : ℕ) (l : List ℕ) → at + m ≤ length l → put_mid at m l (map suc (take m (drop at l))) ≡ stepped at (at + m) l
+unfolding stepped
+stepped-part zero m l k = rw zero-add (stepped-front m l (omega arith))
+stepped-part (suc at) m [] k = absurd (omega arith)
+stepped-part (suc at) m (x ∷ l) k = rw suc-add (ap (λ (r : List ℕ). x ∷ r) (stepped-part at m l (omega arith)))
+
+pub moved_up : (at n : ℕ) (l : List ℕ) {s : List ℕ} → at ≤ n → n ≤ length l → s ≡ map suc (take (n - at) (drop at l)) → put_mid at (n - at) l s ≡ stepped at n l
+moved_up at n l h k e =
+    let all : at + (n - at) ≡ n = omega arith in
+    rw e (stepped-part at (n - at) l (omega arith)) ∙ ap (λ (m : ℕ). stepped at m l) all
 
 -- those after an index, by parts
 stepped_after : (at n : ℕ) (l : List ℕ) → at < n → n ≤ length l → (take at (take n l) ++ get_or (take n l) at 0 ∷ map suc (drop (suc at) (take n l))) ++ drop n l ≡ stepped (suc at) n l

@@ -2,7 +2,7 @@
 // new is one more of its container's, or opens a place, and the containers after it begin one row later.
 #![tactic(auto)]
 
-ghost use Rattle.std.specs.Prelude.{◌≡◌, ℕ, ◌+◌, ◌^◌, ◌≤◌, ◌<◌, length, get_or};
+ghost use Rattle.std.specs.Prelude.{◌≡◌, ℕ, suc, ◌+◌, ◌^◌, ◌<◌, map, length, get_or};
 ghost use Rattle.std.specs.List.Sorted.{IsNonDecreasing};
 ghost use Rattle.table.specs.Rows.{put_in};
 ghost use Rattle.table.specs.Lent.{lent_mut, SameLists};
@@ -10,16 +10,17 @@ ghost use Rattle.rows.specs.Insert.{insertion, inserted};
 ghost use Rattle.directory.specs.Directory.{entries};
 ghost use Rattle.directory.specs.Lent.{kept_mut, SamePlaces};
 ghost use Rattle.directory.specs.Calls.{filing, GivesBoth};
-ghost use Rattle.directory_insert.specs.Posts.{FindsPlace, entered, stepped, write_places, PlacesAfter, Enters, TakesBoth, TakesAll, BecomesBoth, storing};
+ghost use Rattle.directory_insert.specs.Posts.{FindsPlace, entered, write_places, PlacesAfter, Enters, TakesBoth, TakesAll, BecomesBoth, storing};
 
 use basics::Refusal;
 use directory::DirectoryMut;
 use geometry::Position;
 use grid::ContainerKey;
 use grid_search::GridSearch;
-use table::{ItemId, LibraryMut, Row};
+use table::{ItemId, LibraryMut, Mark, Row};
 
 // The place of a key among those of places, which ascend, or else where it would stand.
+// Kept: a struct of keys that ascend would be made of a slice at each call, and read by index as the slice is.
 fn place_of(keys: &[u64], key: u64) -> Result<usize, usize>
     requires { IsNonDecreasing keys.now }
     ensures { FindsPlace key keys.now result }
@@ -33,6 +34,7 @@ fn place_of(keys: &[u64], key: u64) -> Result<usize, usize>
 }
 
 // How many places will be in use once a mark is in each container of a list.
+// Kept: a struct of keys that ascend would be made of a slice at each call, and read by index as the slice is.
 fn places_after(keys: &[u64], into: &[u64]) -> usize
     requires { IsNonDecreasing keys.now }
     ensures { PlacesAfter keys.now into.now result }
@@ -46,14 +48,13 @@ fn places_after(keys: &[u64], into: &[u64]) -> usize
     n
 }
 
-// Adds 1 to the entries from an index up to n.
-fn move_up(s: &mut [u64], from: usize, n: usize)
-    requires in_list { n ≤ length s.old }
-    requires small { (i : ℕ) → i < n → get_or s.old i 0 + 1 < 2 ^ 64 }
-    ensures { s.new ≡ stepped from n s.old }
+// Adds 1 to each entry.
+fn move_up(s: &mut [u64])
+    requires { (i : ℕ) → i < length s.old → get_or s.old i 0 + 1 < 2 ^ 64 }
+    ensures { s.new ≡ map suc s.old }
 {
-    for i in from..n {
-        s[i] += 1;
+    for entry in s {
+        *entry += 1;
     }
 }
 
@@ -67,7 +68,7 @@ fn enter_row(directory: &mut DirectoryMut, rows: usize, key: u64)
     let before = directory.as_directory();
     match place_of(&before.keys[..used], key) {
         Ok(at) => {
-            move_up(directory.firsts, at + 1, used);
+            move_up(&mut directory.firsts[at + 1..used]);
             directory.counts[at] += 1;
         }
         Err(at) => {
@@ -76,7 +77,7 @@ fn enter_row(directory: &mut DirectoryMut, rows: usize, key: u64)
                 .get(at)
                 .copied()
                 .unwrap_or(rows as u64);
-            move_up(directory.firsts, at, used);
+            move_up(&mut directory.firsts[at..used]);
             table::raise(directory.keys, at, used, key);
             table::raise(directory.firsts, at, used, first);
             table::raise(directory.counts, at, used, 1);
@@ -86,15 +87,9 @@ fn enter_row(directory: &mut DirectoryMut, rows: usize, key: u64)
 }
 
 // Stores a mark in each container of a list, and brings the directory up to date.
-fn store_all(
-    library: &mut LibraryMut,
-    directory: &mut DirectoryMut,
-    into: &[u64],
-    id: ItemId,
-    at: Position,
-)
-    requires { TakesAll (put_in id.0 at into.now) (lent_mut library.old) (kept_mut directory.old) }
-    ensures stores { BecomesBoth (put_in id.0 at into.now) (lent_mut library.old) (kept_mut directory.old) (lent_mut library.new) (kept_mut directory.new) }
+fn store_all(library: &mut LibraryMut, directory: &mut DirectoryMut, into: &[u64], mark: Mark)
+    requires { TakesAll (put_in mark.id.0 mark.at into.now) (lent_mut library.old) (kept_mut directory.old) }
+    ensures stores { BecomesBoth (put_in mark.id.0 mark.at into.now) (lent_mut library.old) (kept_mut directory.old) (lent_mut library.new) (kept_mut directory.new) }
     ensures same_lists { SameLists library.old library.new }
     ensures same_places { SamePlaces directory.old directory.new }
 {
@@ -102,8 +97,8 @@ fn store_all(
         let rows = library.used;
         library.put(Row {
             key: ContainerKey(*key),
-            id: id,
-            at: at,
+            id: mark.id,
+            at: mark.at,
         });
         // the store has made a row
         if library.used != rows {
@@ -118,11 +113,10 @@ fn store_mark(
     library: &mut LibraryMut,
     directory: &mut DirectoryMut,
     into: &[u64],
-    id: ItemId,
-    at: Position,
+    mark: Mark,
 ) -> Result<usize, Refusal>
-    requires { TakesBoth (put_in id.0 at into.now) (lent_mut library.old) (kept_mut directory.old) }
-    ensures stores { GivesBoth (storing (put_in id.0 at into.now) (lent_mut library.old) (kept_mut directory.old)) (inserted result) (lent_mut library.new) (kept_mut directory.new) }
+    requires { TakesBoth (put_in mark.id.0 mark.at into.now) (lent_mut library.old) (kept_mut directory.old) }
+    ensures stores { GivesBoth (storing (put_in mark.id.0 mark.at into.now) (lent_mut library.old) (kept_mut directory.old)) (inserted result) (lent_mut library.new) (kept_mut directory.new) }
     ensures same_lists { SameLists library.old library.new }
     ensures same_places { SamePlaces directory.old directory.new }
 {
@@ -131,7 +125,7 @@ fn store_mark(
     if places_after(&before.keys[..used], into) > before.keys.len() {
         return Err(Refusal::Full);
     }
-    store_all(library, directory, into, id, at);
+    store_all(library, directory, into, mark);
     directory.truncate(directory.used);
     Ok(library.used)
 }
@@ -153,5 +147,9 @@ pub fn insert(
 {
     directory::directory_fault(sheet, library.as_library(), directory.as_directory())?;
     let targets = rows::judge_mark(sheet, library.as_library(), id, x)?;
-    store_mark(library, directory, targets.as_slice(), id, Position::new(x))
+    let mark = Mark {
+        id,
+        at: Position::new(x),
+    };
+    store_mark(library, directory, targets.as_slice(), mark)
 }

@@ -14,7 +14,7 @@ ghost use Rattle.directory.specs.Calls.{directory_tests, filling};
 use basics::Refusal;
 use directory::Directory;
 use grid_search::GridSearch;
-use listing::{Filter, Place};
+use listing::{Filter, Place, SoundLibrary};
 use table::Library;
 
 // How many rows each container has, in their order, of a library that has a directory: 24, 13 (both cover the directory's
@@ -33,6 +33,7 @@ fn checked_counts<'a>(
 
 // Lists the marks on a place, as `listing::search_on` does, and gives the same. Refused with the first of 24, 13, 29, 16, 3, 15
 // and 14 that applies, the list as it was.
+// Kept: what a listing is asked with, in the order of the request: a struct of some of it would be taken apart at once.
 pub fn search_on(
     sheet: GridSearch,
     library: Library,
@@ -45,11 +46,17 @@ pub fn search_on(
         list.old (listing sheet (lent library.entry) (asked sheet.ndim place) filter list.old)) result list.new }
 {
     let counts = checked_counts(sheet, library, directory)?;
-    listing::search_checked_on(sheet, library, Some(counts), place, filter, list)
+    let of = SoundLibrary {
+        sheet,
+        library,
+        counts: Some(counts),
+    };
+    listing::search_checked_on(of, place, filter, list)
 }
 
 // Lists the marks on a place that is given by a number and slices, as `listing::search_on_place` does, and gives the same, with 29
 // directly after 13.
+// Kept: C names a place by a number, with its slices apart; 16 is judged by the number, and then 2 by the slices.
 pub fn search_on_place(
     sheet: GridSearch,
     library: Library,
@@ -65,15 +72,10 @@ pub fn search_on_place(
         list.old (listing sheet (lent library.entry) (asked_of place a.now b.now number) filter list.old)) result list.new }
 {
     let counts = checked_counts(sheet, library, directory)?;
-    listing::search_checked_on_place(
+    let of = SoundLibrary {
         sheet,
         library,
-        Some(counts),
-        place,
-        a,
-        b,
-        number,
-        filter,
-        list,
-    )
+        counts: Some(counts),
+    };
+    listing::search_checked_on_place(of, place, a, b, number, filter, list)
 }

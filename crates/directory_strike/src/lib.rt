@@ -35,18 +35,18 @@ fn rows_left(ids: &[u64], row: usize, count: usize, id: u64, next: usize) -> usi
     count_others(&ids[row..row + count], id)
 }
 
-// Where the next row of the id stands from `from` on, or the end of the rows, where none up to `next` is of it: looked for only
+// Where the next row of the id stands from `row` on, or the end of the rows, where none up to `next` is of it: looked for only
 // once `next` is passed. Callers need only that none stands before it.
-fn next_from(ids: &[u64], id: u64, from: usize, next: usize) -> usize
-    requires within { from ≤ length ids.now }
-    requires quiet { Quiet id from next ids.now }
-    ensures { Quiet id from result ids.now }
+fn next_from(ids: &[u64], id: u64, row: usize, next: usize) -> usize
+    requires within { row ≤ length ids.now }
+    requires quiet { Quiet id row next ids.now }
+    ensures { Quiet id row result ids.now }
 {
-    if from <= next {
+    if row <= next {
         return next;
     }
-    match strike::first_with(&ids[from..], id) {
-        Some(n) => from + n,
+    match strike::first_with(&ids[row..], id) {
+        Some(n) => row + n,
         None => ids.len(),
     }
 }

@@ -77,6 +77,7 @@ impl Position {
 }
 
 // Whether a test is passed along every axis in use, where these are its answers along x, y and z.
+// Kept: answers of tests and no switch: a closure over the axes would choose the coordinate by its number at each step.
 #[tactic(auto, using(crate::proofs::Axes::every_is))]
 pub fn on_every_axis(ndim: Dimension, x: bool, y: bool, z: bool) -> bool
     ensures { result ≡ every_axis ndim.n x y z }
@@ -85,6 +86,7 @@ pub fn on_every_axis(ndim: Dimension, x: bool, y: bool, z: bool) -> bool
 }
 
 // Whether it is passed along some axis in use.
+// Kept: answers of tests and no switch: a closure over the axes would choose the coordinate by its number at each step.
 #[tactic(auto, using(crate::proofs::Axes::some_is))]
 pub fn on_some_axis(ndim: Dimension, x: bool, y: bool, z: bool) -> bool
     ensures { result ≡ some_axis ndim.n x y z }
@@ -151,6 +153,7 @@ fn dot(ndim: Dimension, u: Position, v: Position) -> f64
 }
 
 // The square of the distance between two points.
+// Kept: a distance has two points and no more; a struct of them would be made at each call and taken apart at once.
 #[tactic(auto, using(crate::proofs::Axes::dot_less), unfolding(crate::specs::Distances::point_square))]
 pub fn point_square(ndim: Dimension, a: Position, b: Position) -> f64
     ensures { result ≡ point_square (coords ndim.n a) (coords ndim.n b) }
@@ -160,6 +163,7 @@ pub fn point_square(ndim: Dimension, a: Position, b: Position) -> f64
 }
 
 // The distance between two points.
+// Kept: a distance has two points and no more; a struct of them would be made at each call and taken apart at once.
 #[tactic(auto, unfolding(crate::specs::Distances::point_point))]
 pub fn point_point(ndim: Dimension, a: Position, b: Position) -> f64
     ensures { result ≡ point_point (coords ndim.n a) (coords ndim.n b) }
@@ -187,6 +191,7 @@ pub fn line_square(ndim: Dimension, line: Line, c: Position) -> f64
 }
 
 impl Line {
+    // Kept: a distance has two points and no more; a struct of them would be made at each call and taken apart at once.
     #[tactic(auto, using(crate::proofs::Axes::line_is))]
     pub fn new(ndim: Dimension, a: Position, b: Position) -> Line
         ensures { result ≡ line_of ndim.n a b }
@@ -207,6 +212,7 @@ impl Line {
     }
 
     // The distance of a point c to the line.
+    // Kept: not one with the other distance: they share the root, which is `floats::sqrt`, and each takes it of its own square.
     #[tactic(auto, unfolding(crate::specs::Distances::point_line))]
     pub fn distance(self, ndim: Dimension, c: Position) -> f64
         ensures { (a b : Position) → self ≡ line_of ndim.n a b → result ≡ point_line (coords ndim.n a) (coords ndim.n b) (coords ndim.n c) }
@@ -216,6 +222,7 @@ impl Line {
 }
 
 // Whether the ends of a line are too close: n ⋅ n, with n = b - a, is at most 2^-52.
+// Kept: a distance has two points and no more; a struct of them would be made at each call and taken apart at once.
 pub fn too_close(ndim: Dimension, a: Position, b: Position) -> bool
     ensures { result ≡ too_close (coords ndim.n a) (coords ndim.n b) }
 {
@@ -240,6 +247,7 @@ pub fn point_point_distance(a: &[f64], b: &[f64]) -> Result<f64, Refusal>
 }
 
 // The distance of c to the line through a and b, or the refusal 15.
+// Kept: a distance has two points and no more; a struct of them would be made at each call and taken apart at once.
 #[tactic(auto, unfolding(basics::specs::Refusals::fault, basics::specs::Refusals::answer))]
 fn line_distance(ndim: Dimension, a: Position, b: Position, c: Position) -> Result<f64, Refusal>
     ensures { measured result ≡ answer (fault (refuse 15 (too_close (coords ndim.n a) (coords ndim.n b)) ∷ [])) (point_line (coords ndim.n a) (coords ndim.n b) (coords ndim.n c)) }
@@ -316,6 +324,7 @@ pub fn point_cylinder_distance(a: &[f64], b: &[f64], radius: f64, p: &[f64]) -> 
 }
 
 // Twice the area of the triangle xa, xb, xc, below zero where they turn clockwise: `a2` in gemlab.
+// Kept: corners by gemlab's names, in which its formulas are written: a struct's name would stand before each of them.
 #[tactic(auto, unfolding(crate::specs::Cells::doubled_area))]
 pub fn doubled_area(xa: Position, xb: Position, xc: Position) -> f64
     ensures { result ≡ doubled_area xa xb xc }
@@ -325,6 +334,7 @@ pub fn doubled_area(xa: Position, xb: Position, xc: Position) -> f64
 
 // The three coordinates of xp in the triangle xa, xb, xc: with xp in the place of each corner gemlab's text works out the very
 // terms of `a2`.
+// Kept: corners by gemlab's names, in which its formulas are written: a struct's name would stand before each of them.
 #[tactic(auto, unfolding(crate::specs::Cells::triangle_coords))]
 pub fn triangle_coords(xa: Position, xb: Position, xc: Position, xp: Position) -> Zeta
     ensures { result ≡ triangle_coords xa xb xc xp }
@@ -353,6 +363,7 @@ pub fn in_triangle(zeta: Zeta) -> bool
 }
 
 // The four coordinates of xp in the tetrahedron xa, xb, xc, xd.
+// Kept: corners by gemlab's names, in which its formulas are written: a struct's name would stand before each of them.
 #[tactic(auto, unfolding(crate::specs::Cells::tetrahedron_coords))]
 pub fn tetrahedron_coords(
     xa: Position,

@@ -2,10 +2,10 @@
 // centre. From gemlab's `util/num_divisions.rs`, `util/calc_container_key.rs` and the methods of `GridSearch`.
 #![tactic(auto)]
 
-ghost use Rattle.std.specs.Prelude.{◌^◌, ◌≤◌, ◌<◌, ◌≡◌, true, cond, ◌||◌};
+ghost use Rattle.std.specs.Prelude.{◌^◌, ◌≤◌, ◌<◌, ◌≡◌, true, ◌||◌};
 ghost use Rattle.std.specs.Float.Ieee.{lt};
 ghost use Rattle.basics.specs.Lists.{all};
-ghost use Rattle.floats.specs.Rounded.{◌⊕◌, ◌⊖◌, ◌⊗◌, ◌⊘◌, of_nat, truncate, pow2, zero_f};
+ghost use Rattle.floats.specs.Rounded.{◌⊕◌, ◌⊖◌, ◌⊗◌, ◌⊘◌, of_nat, truncate, pow2};
 ghost use Rattle.geometry.specs.Position.{coords, position_of, dimension};
 ghost use Rattle.grid.specs.Divisions.{counts, divisions_of, division, longer as longer_of, longest as longest_of, share as share_of, num_divisions};
 ghost use Rattle.grid.specs.Containers.{outside, inner as inner_of, along, Fits, combine, located, containers, indices, pivot_of, pivots, centre, InGrid};
@@ -114,6 +114,7 @@ fn share(ndiv_long: u64, long: Longest, axis: usize, delta: f64) -> u64
 }
 
 // The divisions of a box whose longest axis has `ndiv_long` of them.
+// Kept: document 01 gives the corners as two points, and so are they in a sheet and in an index: no caller has them in one.
 pub fn num_divisions(ndim: Dimension, ndiv_long: u64, xmin: Position, xmax: Position) -> Divisions
     requires most { ndiv_long ≤ 1024 }
     ensures { result ≡ divisions_of (num_divisions ndiv_long (coords ndim.n xmin) (coords ndim.n xmax)) }
@@ -140,6 +141,7 @@ fn is_beyond(xmin: f64, xmax: f64, x: f64) -> bool
 }
 
 // Whether a position is outside the box on some axis.
+// Kept: document 01 gives the corners as two points, and so are they in a sheet and in an index: no caller has them in one.
 pub fn is_outside(ndim: Dimension, xmin: Position, xmax: Position, x: Position) -> bool
     ensures { result ≡ outside (coords ndim.n xmin) (coords ndim.n xmax) (coords ndim.n x) }
 {
@@ -168,16 +170,12 @@ fn inner(n: u64, ratio: u64) -> u64
     if ratio < n { ratio } else { n - 1 }
 }
 
-// The index of the container that x falls into along an axis, or none where the ratio exceeds its divisions: 0 on an axis that is
-// not in use.
-fn index_along(in_use: bool, n: u64, side_length: f64, xmin: f64, x: f64) -> Option<u64>
+// The index of the container that x falls into along an axis, or none where the ratio exceeds its divisions.
+fn index_along(n: u64, side_length: f64, xmin: f64, x: f64) -> Option<u64>
     requires { 1 ≤ n }
-    ensures value { result ≡ along n (cond in_use (truncate ((x ⊖ xmin) ⊘ side_length)) 0) }
+    ensures value { result ≡ along n (truncate ((x ⊖ xmin) ⊘ side_length)) }
     ensures in_range { Fits n result }
 {
-    if !in_use {
-        return Some(0);
-    }
     let r = ratio(side_length, xmin, x);
     if r > n { None } else { Some(inner(n, r)) }
 }
@@ -193,6 +191,7 @@ fn combined(ndiv: Divisions, pivot: Pivot) -> u64
 
 // The container that a position falls into, or none where a ratio exceeds its divisions. In 2D the third axis, with one division
 // and the index 0, adds nothing.
+// Kept: dimension and divisions stand in a sheet as C hands it in; a struct that holds the fact would be made at each call.
 pub fn calc_container_key(
     ndim: Dimension,
     side_length: f64,
@@ -204,13 +203,18 @@ pub fn calc_container_key(
     ensures { result ≡ located (counts ndim.n ndiv) side_length (coords ndim.n xmin) (coords ndim.n x) }
 {
     let n = ndiv.in_use(ndim);
-    let i = index_along(true, n.x, side_length, xmin.x, x.x)?;
-    let j = index_along(true, n.y, side_length, xmin.y, x.y)?;
-    let k = index_along(ndim.n == 3, n.z, side_length, xmin.z, x.z)?;
+    let i = index_along(n.x, side_length, xmin.x, x.x)?;
+    let j = index_along(n.y, side_length, xmin.y, x.y)?;
+    let k = if ndim.n == 3 {
+        index_along(n.z, side_length, xmin.z, x.z)?
+    } else {
+        0
+    };
     Some(ContainerKey(combined(n, Pivot { i, j, k })))
 }
 
 // How many containers there are.
+// Kept: dimension and divisions stand in a sheet as C hands it in; a struct that holds the fact would be made at each call.
 pub fn container_count(ndim: Dimension, ndiv: Divisions) -> u64
     requires divisions { all division (counts ndim.n ndiv) ≡ true }
     ensures { result ≡ containers (counts ndim.n ndiv) }
@@ -220,6 +224,7 @@ pub fn container_count(ndim: Dimension, ndiv: Divisions) -> u64
 }
 
 // The indices of a container. In 2D the third is 0.
+// Kept: dimension and divisions stand in a sheet as C hands it in; a struct that holds the fact would be made at each call.
 pub fn pivot_indices(ndim: Dimension, ndiv: Divisions, key: ContainerKey) -> Pivot
     requires divisions { all division (counts ndim.n ndiv) ≡ true }
     requires key_in_range { key.0 < containers (counts ndim.n ndiv) }
@@ -234,19 +239,16 @@ pub fn pivot_indices(ndim: Dimension, ndiv: Divisions, key: ContainerKey) -> Piv
     }
 }
 
-// The middle of the container with index i along an axis, and +0 on an axis that is not in use.
-fn middle(in_use: bool, side_length: f64, xmin: f64, i: u64) -> f64
+// The middle of the container with index i along an axis.
+fn middle(side_length: f64, xmin: f64, i: u64) -> f64
     requires { i ≤ 2 ^ 53 }
-    ensures { result ≡ cond in_use (xmin ⊕ of_nat i ⊗ side_length ⊕ side_length ⊘ pow2 1) zero_f }
+    ensures { result ≡ xmin ⊕ of_nat i ⊗ side_length ⊕ side_length ⊘ pow2 1 }
 {
-    if in_use {
-        xmin + (i as f64) * side_length + side_length / 2.0
-    } else {
-        0.0
-    }
+    xmin + (i as f64) * side_length + side_length / 2.0
 }
 
 // The centre of a container.
+// Kept: dimension and divisions stand in a sheet as C hands it in; a struct that holds the fact would be made at each call.
 pub fn container_center(
     ndim: Dimension,
     side_length: f64,
@@ -259,9 +261,10 @@ pub fn container_center(
     ensures { result ≡ position_of (centre side_length (coords ndim.n xmin) (pivots (counts ndim.n ndiv) key.0)) }
 {
     let pivot = pivot_indices(ndim, ndiv, key);
-    Position {
-        x: middle(true, side_length, xmin.x, pivot.i),
-        y: middle(true, side_length, xmin.y, pivot.j),
-        z: middle(ndim.n == 3, side_length, xmin.z, pivot.k),
-    }
+    let center = Position {
+        x: middle(side_length, xmin.x, pivot.i),
+        y: middle(side_length, xmin.y, pivot.j),
+        z: middle(side_length, xmin.z, pivot.k),
+    };
+    center.in_use(ndim)
 }

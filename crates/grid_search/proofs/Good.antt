@@ -24,7 +24,7 @@ use Rattle.grid.specs.Divisions.{counts, division}
 use Rattle.grid_search.specs.declared.GridSearch.{GridSearch}
 use Rattle.grid_search.specs.Sheet.{tolerance_of, border_of, sheet_from, sheet_tests, new_sheet, same_position, same_divisions, same_sheet, agrees, sheet_ok}
 use Rattle.grid_search.proofs.Sizes.{sized_finite, finite_number, above_zero}
-use Rattle.grid_search.proofs.Settings.{divisions_from, xmin_from, xmax_from, of_settings}
+use Rattle.grid_search.proofs.OfSettings.{divisions_from, xmin_from, xmax_from, of_settings}
 
 -- ---- the settings that a sheet keeps, and what they give
 abbrev pub low_of : GridSearch → List Float

@@ -2,7 +2,7 @@
 pub mod InForce
 pub mod Laws
 pub mod Sizes
-pub mod Settings
+pub mod OfSettings
 pub mod Good
 pub mod Remade
 pub mod Examples

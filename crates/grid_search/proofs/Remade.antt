@@ -28,7 +28,7 @@ use Rattle.std.specs.Prelude.{Option as Given}
 use Rattle.grid_search.specs.declared.GridSearch.{GridSearch}
 use Rattle.grid_search.specs.Sheet.{number_of, tolerance_of, border_of, sheet_from, sheet_tests, new_sheet, same_position, same_divisions, same_sheet, sheet_ok, lowered, raised, largest, side_of, covered_of, diagonal}
 use Rattle.grid_search.proofs.Sizes.{sized_finite, coordinates_sized, finite_number}
-use Rattle.grid_search.proofs.Settings.{tests_passed, xmin_from, xmax_from, of_settings}
+use Rattle.grid_search.proofs.OfSettings.{tests_passed, xmin_from, xmax_from, of_settings}
 use Rattle.grid_search.proofs.Good.{low_of, high_of, rebuilt, remade, kept, same_fields, good}
 
 -- ---- a good sheet is the one that its settings give

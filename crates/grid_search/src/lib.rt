@@ -35,6 +35,17 @@ pub struct GridSearch {
     pub radius: f64,
 }
 
+// What a sheet is made of: the settings, with a number of axes that is one.
+#[derive(Clone, Copy)]
+struct Settings {
+    ndim: Dimension,
+    low: Position,
+    high: Position,
+    number: Option<u64>,
+    tolerance: Option<f64>,
+    border_tol: Option<f64>,
+}
+
 // √3, to the nearest `f64`.
 const SQRT_3: f64 = 1.7320508075688772;
 
@@ -93,6 +104,7 @@ fn side_along(xmin: f64, xmax: f64, n: u64) -> f64
 }
 
 // The side of the square or cubic containers: the largest along an axis.
+// Kept: dimension and divisions stand in a sheet as C hands it in; a struct that holds the fact would be made at each call.
 fn side(ndim: Dimension, xmin: Position, xmax: Position, ndiv: Divisions) -> f64
     requires divisions { all division (counts ndim.n ndiv) ≡ true }
     ensures { result ≡ side_of (coords ndim.n xmin) (coords ndim.n xmax) (counts ndim.n ndiv) }
@@ -115,6 +127,7 @@ fn end_along(xmin: f64, side: f64, n: u64) -> f64
 }
 
 // The high corner of the containers, which cover the box.
+// Kept: dimension and divisions stand in a sheet as C hands it in; a struct that holds the fact would be made at each call.
 pub fn covered(ndim: Dimension, xmin: Position, side: f64, ndiv: Divisions) -> Position
     requires divisions { all division (counts ndim.n ndiv) ≡ true }
     ensures { result ≡ position_of (covered_of side (coords ndim.n xmin) (counts ndim.n ndiv)) }
@@ -140,19 +153,21 @@ fn diagonal(ndim: Dimension) -> f64
 }
 
 // The sheet that settings give which passed the tests 1 to 9.
-fn built(
-    ndim: Dimension,
-    low: Position,
-    high: Position,
-    number: Option<u64>,
-    tolerance: Option<f64>,
-    border_tol: Option<f64>,
-) -> GridSearch
-    requires in_order { in_order (coords ndim.n low) (coords ndim.n high) ≡ true }
-    requires least { 1 ≤ number_of number }
-    requires most { number_of number ≤ 1024 }
-    ensures { result ≡ sheet_from (coords ndim.n low) (coords ndim.n high) number tolerance border_tol }
+fn built(settings: Settings) -> GridSearch
+    requires in_order { in_order (coords settings.ndim.n settings.low) (coords settings.ndim.n settings.high) ≡ true }
+    requires least { 1 ≤ number_of settings.number }
+    requires most { number_of settings.number ≤ 1024 }
+    ensures { result ≡ sheet_from (coords settings.ndim.n settings.low) (coords settings.ndim.n settings.high)
+        settings.number settings.tolerance settings.border_tol }
 {
+    let Settings {
+        ndim,
+        low,
+        high,
+        number,
+        tolerance,
+        border_tol,
+    } = settings;
     // the divisions come from the corners before the border widens them
     let ndiv = grid::num_divisions(ndim, number.unwrap_or(GridSearch::NDIV), low, high);
     let border = border_tol.unwrap_or(GridSearch::BORDER_TOL);
@@ -187,40 +202,29 @@ pub fn past_limits(tolerance: f64, border: f64) -> bool
 }
 
 // 3: a float not finite or past its limit.
-fn out_of_limits(
-    ndim: Dimension,
-    low: Position,
-    high: Position,
-    tolerance: f64,
-    border: f64,
-) -> bool
-    ensures { result ≡ out_of_limits (coords ndim.n low) (coords ndim.n high) tolerance border }
+fn out_of_limits(settings: Settings, tolerance: f64, border: f64) -> bool
+    ensures { result ≡ out_of_limits (coords settings.ndim.n settings.low) (coords settings.ndim.n settings.high) tolerance border }
 {
-    let low_ok = geometry::position_ok(ndim, low);
-    let high_ok = geometry::position_ok(ndim, high);
+    let low_ok = geometry::position_ok(settings.ndim, settings.low);
+    let high_ok = geometry::position_ok(settings.ndim, settings.high);
     let finite = floats::is_finite(tolerance) & floats::is_finite(border);
     !(low_ok & (high_ok & finite)) | past_limits(tolerance, border)
 }
 
 // 7: the high corner is above the low one on every axis.
+// Kept: document 01 gives the corners as two points, and so are they in a sheet and in an index: no caller has them in one.
 pub fn is_above(ndim: Dimension, low: Position, high: Position) -> bool
     ensures { result ≡ in_order (coords ndim.n low) (coords ndim.n high) }
 {
     geometry::on_every_axis(ndim, low.x < high.x, low.y < high.y, low.z < high.z)
 }
 
-// What turns settings in force away that come with corners which are positions: 3 to 9.
-fn settings_fault(
-    ndim: Dimension,
-    low: Position,
-    high: Position,
-    ndiv_long: u64,
-    tol: f64,
-    border: f64,
-) -> Result<(), Refusal>
-    ensures { fault_in result ≡ fault (in_force_tests (coords ndim.n low) (coords ndim.n high) ndiv_long tol border) }
+// What turns settings away, with the divisions, the tolerance and the border that are in force: 3 to 9.
+fn settings_fault(settings: Settings, ndiv_long: u64, tol: f64, border: f64) -> Result<(), Refusal>
+    ensures { fault_in result ≡ fault (in_force_tests (coords settings.ndim.n settings.low) (coords settings.ndim.n settings.high)
+        ndiv_long tol border) }
 {
-    if out_of_limits(ndim, low, high, tol, border) {
+    if out_of_limits(settings, tol, border) {
         return Err(Refusal::Limit);
     }
     if ndiv_long == 0 {
@@ -232,7 +236,7 @@ fn settings_fault(
     if ndiv_long > 1024 {
         return Err(Refusal::ManyDivisions);
     }
-    if !is_above(ndim, low, high) {
+    if !is_above(settings.ndim, settings.low, settings.high) {
         return Err(Refusal::Corners);
     }
     if tol <= 0.0 {
@@ -244,22 +248,16 @@ fn settings_fault(
     Ok(())
 }
 
-// The sheet of corners that are positions, or what turns the settings away: 3 to 10.
-fn sheet_from(
-    ndim: Dimension,
-    low: Position,
-    high: Position,
-    number: Option<u64>,
-    tolerance: Option<f64>,
-    border_tol: Option<f64>,
-) -> Result<GridSearch, Refusal>
-    ensures { made result ≡ new_sheet (coords ndim.n low) (coords ndim.n high) number tolerance border_tol }
+// The sheet of settings, or what turns them away: 3 to 10.
+fn sheet_from(settings: Settings) -> Result<GridSearch, Refusal>
+    ensures { made result ≡ new_sheet (coords settings.ndim.n settings.low) (coords settings.ndim.n settings.high)
+        settings.number settings.tolerance settings.border_tol }
 {
-    let ndiv_long = number.unwrap_or(GridSearch::NDIV);
-    let tol = tolerance.unwrap_or(GridSearch::TOLERANCE);
-    let border = border_tol.unwrap_or(GridSearch::BORDER_TOL);
-    settings_fault(ndim, low, high, ndiv_long, tol, border)?;
-    let sheet = built(ndim, low, high, number, tolerance, border_tol);
+    let ndiv_long = settings.number.unwrap_or(GridSearch::NDIV);
+    let tol = settings.tolerance.unwrap_or(GridSearch::TOLERANCE);
+    let border = settings.border_tol.unwrap_or(GridSearch::BORDER_TOL);
+    settings_fault(settings, ndiv_long, tol, border)?;
+    let sheet = built(settings);
     if sheet.side_length <= 2.0 * tol {
         return Err(Refusal::Side);
     }
@@ -297,7 +295,14 @@ impl GridSearch {
         }
         let low = Position::new(xmin);
         let high = Position::new(xmax);
-        sheet_from(ndim, low, high, ndiv, tolerance, border_tol)
+        sheet_from(Settings {
+            ndim,
+            low,
+            high,
+            number: ndiv,
+            tolerance,
+            border_tol,
+        })
     }
 }
 
@@ -332,10 +337,15 @@ pub fn is_sheet(s: GridSearch) -> bool
     let Ok(ndim) = Dimension::try_from(s.ndim) else {
         return false;
     };
-    let number = s.number;
-    let tolerance = s.tolerance;
-    let border_tol = s.border_tol;
-    match sheet_from(ndim, s.low, s.high, number, tolerance, border_tol) {
+    let settings = Settings {
+        ndim,
+        low: s.low,
+        high: s.high,
+        number: s.number,
+        tolerance: s.tolerance,
+        border_tol: s.border_tol,
+    };
+    match sheet_from(settings) {
         Ok(t) => same_sheet(s, t),
         Err(_) => false,
     }

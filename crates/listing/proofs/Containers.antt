@@ -10,18 +10,14 @@ use lib.ListN.{length, get_or, take, drop, drop_of_length-le}
 use lib.Seq.{get_or-drop, get_or-take, drop-cons, drop-drop, slice-cons, length-slice}
 use denote.Ref.{Bor}
 use Rattle.std.specs.Prelude.{Option, Some, None}
+use Rattle.std.proofs.lemmas.List.{drop-take}
 use borrow.Author.Tests.{eqb-true, ltb-true, ltb-false}
 use Rattle.basics.proofs.Bools.{by_test}
 use Rattle.table.specs.Rows.{run}
-use Rattle.table.proofs.Runs.{run-one}
+use Rattle.table.proofs.Runs.{run-one, run-most}
 use Rattle.listing.specs.Posts.{end_from, Runs, CountedFrom}
 
 -- ---- a run of equal keys
-
-run-upto : (k : ℕ) (ks : List ℕ) → run k ks ≤ length ks
-unfolding run
-run-upto k [] = omega arith
-run-upto k (j ∷ ks) = let ih = run-upto k ks in by_test (eqb j k) (λ e. rw e (omega arith)) (λ e. rw e (omega arith))
 
 run-same : (k : ℕ) (ks : List ℕ) (i : ℕ) → i < run k ks → get_or ks i 0 ≡ k
 unfolding run
@@ -49,8 +45,14 @@ module _ (keys : List ℕ) (used first : ℕ) (k : used ≤ length keys) (h : fi
   pub end_past : first < end_from keys used first
   end_past = omega (arith, end_behind)
 
+  -- as they are counted
+  pub end-run : {n : ℕ} → n ≡ run key (take (used - first) (drop first keys)) → first + n ≡ end_from keys used first
+  end-run e =
+      let all : first + (used - first) ≡ used = omega arith in
+      ap (λ (n : ℕ). first + n) (e ∙ ap (run key) (sym (drop-take first (used - first) keys) ∙ ap (λ (n : ℕ). drop first (take n keys)) all))
+
   pub end_upto : end_from keys used first ≤ used
-  end_upto = omega (arith, run-upto key (drop first (take used keys)), length-slice first used keys k)
+  end_upto = omega (arith, run-most key (drop first (take used keys)), length-slice first used keys k)
 
   pub end_alike : (i : ℕ) → first ≤ i → i < end_from keys used first → get_or keys i 0 ≡ key
   end_alike i a b =

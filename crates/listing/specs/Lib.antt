@@ -2,4 +2,5 @@
 pub mod Place
 pub mod Ready
 pub mod Listing
+pub mod Counted
 pub mod Posts

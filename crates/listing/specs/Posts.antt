@@ -1,6 +1,6 @@
 -- What the inner functions of a listing ask and ensure.
 -- Assumes nothing.
-use Rattle.std.specs.Prelude.{ℕ, suc, ◌+◌, ◌≤◌, ◌<◌, ◌≡◌, true, false, List, [], ◌∷◌, map, ltb, length, get_or, take, drop, Float, Option, Some, None, Result}
+use Rattle.std.specs.Prelude.{ℕ, ◌+◌, ◌≤◌, ◌<◌, ◌≡◌, true, false, List, [], ◌∷◌, map, ltb, length, get_or, take, drop, Float, Option, Some, None, Result}
 use denote.Ref.{Bor}
 use Rattle.basics.specs.Lists.{keep}
 use Rattle.basics.specs.Refusals.{refuse, fault}
@@ -19,6 +19,7 @@ use Rattle.listing.specs.declared.walk.Reached.{Reached}
 use Rattle.listing.specs.Place.{unknown, asked_of, asked, wrong_length, unfit, unfit_filter, container_near, is_on}
 use Rattle.listing.specs.Listing.{listed}
 use Rattle.basics.specs.Filled.{fill}
+pub use Rattle.listing.specs.Counted.{Runs, CountedFrom, Counted}
 
 -- A place that the code makes of a number and slices: the one that they name, where the slices have the right length, and else of
 -- the same kind, so that 16 says the same of both.
@@ -36,21 +37,6 @@ Named p a b v None = asked_of p a b v ≡ unknown
 -- where the rows of the container end whose first row this is
 abbrev pub end_from : List ℕ → ℕ → ℕ → ℕ
 end_from keys used first = first + run (get_or keys first 0) (drop first (take used keys))
-
--- the counts are those of the containers of rows with these keys, in their order: how many rows stand side by side with one key
-abbrev pub Runs : List ℕ → List ℕ → Type 0
-Runs [] keys = keys ≡ []
-Runs (n ∷ counts) [] = ⊥
-Runs (n ∷ counts) (k ∷ keys) = (n ≡ suc (run k keys)) × Runs counts (drop (run k keys) keys)
-
--- the counts from a place on are those of the containers from a row on, where counts are at hand
-abbrev pub CountedFrom : List ℕ → ℕ → Option (Bor (List ℕ)) → ℕ → ℕ → Type 0
-CountedFrom keys used (Some counts) place first = Runs (drop place counts.now) (drop first (take used keys))
-CountedFrom keys used None place first = Unit {0}
-
--- the counts are those of the containers of the rows in use, where they are at hand
-abbrev pub Counted : List ℕ → ℕ → Option (Bor (List ℕ)) → Type 0
-Counted keys used counts = CountedFrom keys used counts 0 0
 
 -- ---- the walk
 

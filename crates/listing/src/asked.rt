@@ -34,6 +34,7 @@ pub(crate) fn is_unfit_filter(ndim: Dimension, filter: Filter) -> bool
 }
 
 // Whether a position of the place of a number has another length than the dimension: 2.
+// Kept: C names a place by a number, with its slices apart; 16 is judged by the number, and then 2 by the slices.
 #[tactic(auto, unfolding(crate::specs::Place::asked_of, crate::specs::Place::wrong_length))]
 pub(crate) fn has_wrong_length(ndim: Dimension, place: u64, a: &[f64], b: &[f64]) -> bool
     ensures { (v : Float) → result ≡ wrong_length ndim.n (asked_of place a.now b.now v) }

@@ -3,22 +3,21 @@
 
 mod asked;
 mod near;
+mod sound;
 mod walk;
 
 ghost use Rattle.basics.specs.Answers.{fault_in};
 ghost use Rattle.basics.specs.Refusals.{fault};
 ghost use Rattle.geometry.specs.Axes.{dimension};
 ghost use Rattle.table.specs.Lent.{lent};
-ghost use Rattle.rows.specs.Damage.{library_tests};
 ghost use Rattle.listing.specs.Place.{line, circle, cylinder, asked_of, asked, place_tests};
 ghost use Rattle.listing.specs.Listing.{listing, Lists};
-ghost use Rattle.listing.specs.Posts.{Counted};
 ghost use Rattle.std.specs.Prelude.{◌≡◌, true, ltb};
-ghost use Rattle.std.proofs.Math.Option.{none};
 
 use basics::Refusal;
 use geometry::{Dimension, Position};
 use grid_search::GridSearch;
+pub use sound::SoundLibrary;
 use table::Library;
 
 // A place: what the marks of a listing lie on.
@@ -37,6 +36,7 @@ pub enum Place {
 }
 
 // Which of the marks on a place are kept: all, or those whose coordinate on an axis lies in a closed range.
+// Kept: calls read `Filter::Everything` and `Filter::Range`, the request's words; an Option of a range would read `None`.
 #[derive(Clone, Copy)]
 pub enum Filter {
     Everything,
@@ -44,6 +44,7 @@ pub enum Filter {
 }
 
 // What turns a place and a filter away: 16, 3, and 15 where a row is in use.
+// Kept: a sheet has its number of axes as C hands it in; a type that holds this would be made of the sheet at each call.
 #[tactic(auto, using(crate::proofs::Places::right_lengths), unfolding(crate::specs::Place::place_tests, basics::specs::Refusals::fault))]
 fn place_fault(sheet: GridSearch, used: usize, place: Place, filter: Filter) -> Result<(), Refusal>
     requires { dimension sheet.ndim ≡ true }
@@ -64,32 +65,27 @@ fn place_fault(sheet: GridSearch, used: usize, place: Place, filter: Filter) -> 
     Ok(())
 }
 
-// The listing of `search_on`, past the check of the library. `counts` says how many rows each container has, in their order,
-// where that is at hand. It becomes part of each caller, whose frame then holds the sheet and the library once.
+// The listing of `search_on`, past the check of the library. It becomes part of each caller, whose frame then holds the sheet and
+// the library once.
+// Kept: what a listing is asked with, in the order of the request: a struct of some of it would be taken apart at once.
 #[inline(always)]
 pub fn search_checked_on(
-    sheet: GridSearch,
-    library: Library,
-    counts: Option<&[u64]>,
+    of: SoundLibrary,
     place: Place,
     filter: Filter,
     list: &mut [u64],
 ) -> Result<usize, Refusal>
-    requires sound { fault (library_tests sheet (lent library)) ≡ none }
-    requires counted { Counted library.keys.now library.used counts }
-    ensures { Lists (listing sheet (lent library.entry) (asked sheet.ndim place) filter list.old) result list.new }
+    ensures { Lists (listing of.entry.sheet (lent of.entry.library) (asked of.entry.sheet.ndim place) filter list.old) result list.new }
 {
-    place_fault(sheet, library.used, place, filter)?;
-    walk::list_on(sheet, library, counts, place, filter, list)
+    place_fault(of.sheet, of.library.used, place, filter)?;
+    walk::list_on(of, place, filter, list)
 }
 
-// The listing of `search_on_place`, past the check of the library, with `counts` and its frame as in
-// `search_checked_on`.
+// The listing of `search_on_place`, past the check of the library, with its frame as in `search_checked_on`.
+// Kept: C names a place by a number, with its slices apart; 16 is judged by the number, and then 2 by the slices.
 #[inline(always)]
 pub fn search_checked_on_place(
-    sheet: GridSearch,
-    library: Library,
-    counts: Option<&[u64]>,
+    of: SoundLibrary,
     place: u64,
     a: &[f64],
     b: &[f64],
@@ -97,21 +93,19 @@ pub fn search_checked_on_place(
     filter: Filter,
     list: &mut [u64],
 ) -> Result<usize, Refusal>
-    requires sound { fault (library_tests sheet (lent library)) ≡ none }
-    requires counted { Counted library.keys.now library.used counts }
-    ensures { Lists (listing sheet (lent library.entry) (asked_of place a.now b.now number) filter list.old) result list.new }
+    ensures { Lists (listing of.entry.sheet (lent of.entry.library) (asked_of place a.now b.now number) filter list.old) result list.new }
 {
     let Some(on) = asked::made(place, a, b, number) else {
         return Err(Refusal::Unfit);
     };
-    let ndim = Dimension { n: sheet.ndim };
+    let ndim = Dimension { n: of.sheet.ndim };
     if asked::is_unfit(ndim, on) | asked::is_unfit_filter(ndim, filter) {
         return Err(Refusal::Unfit);
     }
     if asked::has_wrong_length(ndim, place, a, b) {
         return Err(Refusal::Length);
     }
-    search_checked_on(sheet, library, counts, on, filter, list)
+    search_checked_on(of, on, filter, list)
 }
 
 // Lists the marks on a place that the filter keeps: their ids, ascending and once each, stand at the front of the list, and
@@ -121,6 +115,7 @@ pub fn search_checked_on_place(
 // 16 (a circle in 3D, a cylinder or a plane in 2D, a filter on an axis that is not there), 3 (a coordinate, a radius or an end
 // of the range is none), 15 (the ends of a line or a cylinder are too close, while a row is in use), 14 (the list is shorter
 // than the listing). 2 cannot come up: the place holds positions, of whatever dimension.
+// Kept: what a listing is asked with, in the order of the request: a struct of some of it would be taken apart at once.
 pub fn search_on(
     sheet: GridSearch,
     library: Library,
@@ -131,13 +126,19 @@ pub fn search_on(
     ensures { Lists (listing sheet (lent library.entry) (asked sheet.ndim place) filter list.old) result list.new }
 {
     rows::library_fault(sheet, library)?;
-    search_checked_on(sheet, library, None, place, filter, list)
+    let of = SoundLibrary {
+        sheet,
+        library,
+        counts: None,
+    };
+    search_checked_on(of, place, filter, list)
 }
 
 // The listing of a place that is given by a number and slices, as `search_on` gives it, with 2 (a position's length is not
 // the dimension) between 16 and 3. The place is 0 for the line through a and b, 1 for the circle of centre a and radius
 // `number`, 2 for the cylinder of axis a, b and radius `number`, and 3, 4 and 5 for the planes xy, yz and xz at the coordinate
 // `number`; any other is 16. A slice that the place has no use for is not read.
+// Kept: C names a place by a number, with its slices apart; 16 is judged by the number, and then 2 by the slices.
 pub fn search_on_place(
     sheet: GridSearch,
     library: Library,
@@ -151,7 +152,12 @@ pub fn search_on_place(
     ensures { Lists (listing sheet (lent library.entry) (asked_of place a.now b.now number) filter list.old) result list.new }
 {
     rows::library_fault(sheet, library)?;
-    search_checked_on_place(sheet, library, None, place, a, b, number, filter, list)
+    let of = SoundLibrary {
+        sheet,
+        library,
+        counts: None,
+    };
+    search_checked_on_place(of, place, a, b, number, filter, list)
 }
 
 // Lists the marks on the line through a and b, as `search_on` lists those on a place. Refused with the first of 24, 13, 16

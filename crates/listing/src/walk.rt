@@ -12,7 +12,7 @@ ghost use Rattle.listing.specs.Listing.{ids_of};
 ghost use Rattle.listing.specs.Posts.{end_from, CountedFrom, Counted, Known, Gathered, Marks, AllNear, Walked, Out};
 
 use crate::near::Ready;
-use crate::{Filter, Place, near};
+use crate::{Filter, Place, SoundLibrary, near};
 use basics::Refusal;
 use grid::ContainerKey;
 use grid_search::GridSearch;
@@ -49,11 +49,15 @@ impl Walk<'_> {
     {
         match self.counts {
             Some(counts) => first + counts[place] as usize,
-            None => table::end_of(&self.library.keys[..self.library.used], first),
+            None => {
+                let keys = self.library.keys;
+                first + table::run_of(&keys[first..self.library.used], keys[first])
+            }
         }
     }
 
     // Whether a row counts, where its container is near.
+    // Kept: no ghost field of `Walk`: such a fact has one proof at most, and `MadeFor` says of a plane one of two things.
     fn row_counts(self, row: usize) -> bool
         requires made { MadeFor self.sheet self.ready }
         requires in_use { row < self.library.used }
@@ -71,6 +75,7 @@ impl Walk<'_> {
     // Puts the rows of a near container that count behind the marked ones: answers how many are marked then, or nothing where
     // no place would be left for one more. Each row is written there, and stays where it counts, so that no branch depends on
     // that.
+    // Kept: no ghost field of `Walk`: such a fact has one proof at most, and `MadeFor` says of a plane one of two things.
     fn mark_rows(self, first: usize, end: usize, marked: usize, marks: &mut [u16]) -> Option<usize>
         requires made { MadeFor self.sheet self.ready }
         requires in_use { (first ≤ end) × (end ≤ self.library.used) }
@@ -92,6 +97,7 @@ impl Walk<'_> {
     }
 
     // The same for a container that may be far: then none of its rows counts, and it is passed at once.
+    // Kept: no ghost field of `Walk`: such a fact has one proof at most, and `MadeFor` says of a plane one of two things.
     fn mark_container(
         self,
         first: usize,
@@ -116,6 +122,7 @@ impl Walk<'_> {
 
     // Goes on over the containers, and puts their rows that count behind the marked ones: up to the last row, or to a container
     // with which no place would be left for one more.
+    // Kept: no ghost field of `Walk`: such a fact has one proof at most, and `MadeFor` says of a plane one of two things.
     fn gather(&self, from: Reached, marks: &mut [u16]) -> Reached
         requires made { MadeFor self.now.sheet self.now.ready }
         requires walked_from { Walked self.now.sheet self.now.ready.place self.now.filter (lent self.now.library) self.now.counts from marks.old }
@@ -141,6 +148,7 @@ impl Walk<'_> {
 
     // Goes on where there was no room for more than the `few` marks: here every row has room. The 128 KiB of its marks are
     // taken where it is called only, which is why the compiler may not merge it into its caller.
+    // Kept: no ghost field of `Walk`: such a fact has one proof at most, and `MadeFor` says of a plane one of two things.
     #[inline(never)]
     fn list_many(&self, from: Reached, few: &[u16], list: &mut [u64]) -> Result<usize, Refusal>
         requires made { MadeFor self.now.sheet self.now.ready }
@@ -154,6 +162,7 @@ impl Walk<'_> {
     }
 
     // The ids of the rows on the place, ascending, once each: how many they are, or 14.
+    // Kept: no ghost field of `Walk`: such a fact has one proof at most, and `MadeFor` says of a plane one of two things.
     #[inline(always)]
     fn list(&self, list: &mut [u64]) -> Result<usize, Refusal>
         requires made { MadeFor self.now.sheet self.now.ready }
@@ -199,25 +208,23 @@ fn list_marked(marks: &mut [u16], ids: &[u64], list: &mut [u64]) -> Result<usize
 }
 
 // The ids of the rows on a place, ascending, once each: how many they are, or 14.
+// Kept: what a listing is asked with, in the order of the request: a struct of some of it would be taken apart at once.
 #[inline(always)]
 pub(crate) fn list_on(
-    sheet: GridSearch,
-    library: Library,
-    counts: Option<&[u64]>,
+    of: SoundLibrary,
     place: Place,
     filter: Filter,
     list: &mut [u64],
 ) -> Result<usize, Refusal>
-    requires known { Known sheet (lent library) place filter }
-    requires counted { Counted library.keys.now library.used counts }
-    ensures { Out (ids_of (is_on sheet (asked sheet.ndim place) filter) (table (lent library.entry))) list.old result list.new }
+    requires { Known of.sheet (lent of.library) place filter }
+    ensures { Out (ids_of (is_on of.entry.sheet (asked of.entry.sheet.ndim place) filter) (table (lent of.entry.library))) list.old result list.new }
 {
     let walk = Walk {
-        sheet,
-        library,
-        counts,
+        sheet: of.sheet,
+        library: of.library,
+        counts: of.counts,
         filter,
-        ready: near::made_ready(sheet, place),
+        ready: near::made_ready(of.sheet, place),
     };
     walk.list(list)
 }

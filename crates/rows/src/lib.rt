@@ -22,7 +22,7 @@ mod targets;
 use basics::Refusal;
 use geometry::{Dimension, Position};
 use grid_search::GridSearch;
-use table::{ItemId, Library, LibraryMut, Row};
+use table::{ItemId, Library, LibraryMut, Mark, Row};
 pub use targets::Targets;
 
 // The most entries that a lent list of rows may have.
@@ -157,6 +157,7 @@ pub fn library_fault(sheet: GridSearch, library: Library) -> Result<(), Refusal>
 }
 
 // What turns a position away before its container is looked for: 2, 3 or 11.
+// Kept: a sheet has its number of axes as C hands it in; a type that holds this would be made of the sheet at each call.
 pub fn position_fault(sheet: GridSearch, x: &[f64]) -> Result<(), Refusal>
     requires { dimension sheet.ndim ≡ true }
     ensures { fault_in result ≡ fault (position_tests sheet x.now []) }
@@ -184,6 +185,7 @@ pub fn call_fault(sheet: GridSearch, library: Library, x: &[f64]) -> Result<(), 
 
 // Judges an insertion into a library that passes 24 and 13, and finds the containers that the mark goes into: 2, 3, 11, 17 and
 // 12, which is judged before anything is written.
+// Kept: sheet and library are lent apart, and the library is written after this: a struct of both would end before that.
 pub fn judge_mark(
     sheet: GridSearch,
     library: Library,
@@ -214,6 +216,10 @@ pub fn insert(
 {
     library_fault(sheet, library.as_library())?;
     let targets = judge_mark(sheet, library.as_library(), id, x)?;
-    library.put_all(targets.as_slice(), id, Position::new(x));
+    let mark = Mark {
+        id,
+        at: Position::new(x),
+    };
+    library.put_all(targets.as_slice(), mark);
     Ok(library.used)
 }

@@ -48,6 +48,7 @@ impl Model for Targets {
 }
 
 impl Targets {
+    // Kept: not one with `CellKeys`: that keeps eight and not nine, and that each key is below 2^30, which its users need.
     fn new() -> Targets
         ensures { result ≡ [] }
     {
@@ -77,6 +78,7 @@ impl Targets {
 
     // Adds the container of a point, unless the point is outside the sheet. None where a ratio of the point exceeds its
     // divisions.
+    // Kept: a sheet has its number of axes as C hands it in; a type that holds this would be made of the sheet at each call.
     fn look_at(&mut self, sheet: GridSearch, point: Position) -> Option<()>
         requires sheet { Divided sheet }
         requires room { length self.old < 9 }
@@ -98,6 +100,7 @@ impl Targets {
 
     // The containers of a mark at x: those of x and of the halo corners, as far as these points are on the sheet. None where
     // a ratio of one of them exceeds its divisions.
+    // Kept: a sheet has its number of axes as C hands it in; a type that holds this would be made of the sheet at each call.
     pub fn find(sheet: GridSearch, x: Position) -> Option<Targets>
         requires { Divided sheet }
         ensures { result ≡ look_all sheet (Some []) (coords sheet.ndim x ∷ halo (tolerance_of sheet.tolerance) (coords sheet.ndim x)) }

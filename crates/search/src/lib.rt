@@ -36,6 +36,7 @@ fn takes_place(tol_dist: f64, within: f64, best: Option<ItemId>, least: f64, squ
 
 // The choice among the rows near x, which is in the container of a key: the nearest, and the lowest id among equally near
 // ones. The container's rows stand together from `from` on, and their ids ascend.
+// Kept: a sheet has its number of axes as C hands it in; a type that holds this would be made of the sheet at each call.
 pub fn find_from(
     sheet: GridSearch,
     library: Library,

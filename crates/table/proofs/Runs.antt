@@ -3,11 +3,17 @@
 use Prim.Native.Nat.{ℕ, suc, ◌+◌, ◌≤◌, ◌<◌}
 use native.Mathlib.Numerals.{add-one}
 use native.Mathlib.Omega.{arith}
-use mathlib.Core.Path.{◌≡◌, refl}
-use mathlib.Core.List.{List}
-use lib.ListN.{length, get_or, take, drop, drop_of_length-le}
-use lib.Seq.{slice-cons, drop-cons}
-use borrow.Author.Tests.{eq-eqb, ne_eqb}
+use mathlib.Core.Path.{◌≡◌, refl, sym}
+use mathlib.Core.Bool.{not}
+use mathlib.Core.List.{List, [], ◌∷◌}
+use lib.Dec.{ltb, eqb}
+use lib.ListN.{length, get_or, take, drop}
+use lib.Seq.{slice-cons}
+use borrow.Author.Tests.{ltb-false, eq-eqb}
+use Rattle.std.specs.Prelude.{Option, position, unwrap_or}
+use Rattle.std.specs.List.{position_or_len}
+use Rattle.std.proofs.lemmas.List.Recursion.{is_position_or_len}
+use Rattle.basics.proofs.Bools.{by_test}
 use Rattle.table.specs.Rows.{run}
 
 -- among the first `used` of a list
@@ -15,33 +21,19 @@ pub run-one : (key used : ℕ) (keys : List ℕ) (i : ℕ) → i < used → used
 unfolding run
 run-one key used keys i h k e = rw (add-one, slice-cons i used keys 0 h k, eq-eqb (get_or keys i 0) key e)
 
--- the run from `from` on ends where the run from i on does, of the same key
-pub record Running (keys : List ℕ) (from i : ℕ) : Type 0 where
-  pub past : from < i
-  pub same_end : from + run (get_or keys from 0) (drop from keys) ≡ i + run (get_or keys from 0) (drop i keys)
+-- no more than there are
+pub run-most : (key : ℕ) (keys : List ℕ) → run key keys ≤ length keys
+unfolding run
+run-most key [] = omega arith
+run-most key (k ∷ keys) = by_test (eqb k key) (λ e. rw e (omega (arith, run-most key keys))) (λ e. rw e (omega arith))
 
-module _ (keys : List ℕ) (from : ℕ) where
-  abbrev key : ℕ
-  key = get_or keys from 0
-
-  one : (i : ℕ) → i < length keys → get_or keys i 0 ≡ key → run key (drop i keys) ≡ suc (run key (drop (i + 1) keys))
-  unfolding run
-  one i h e = rw (add-one, drop-cons keys i 0 h, eq-eqb (get_or keys i 0) key e)
-
-  pub run-start : from < length keys → Running keys from (from + 1)
-  run-start h = record { past = omega arith; same_end = omega (arith, one from h refl) }
-
-  pub run-next : (i : ℕ) → Running keys from i → i < length keys → get_or keys i 0 ≡ key → Running keys from (i + 1)
-  run-next i w h e = record { past = omega (arith, w.past); same_end = omega (arith, w.same_end, one i h e) }
-
-  pub run_stop : (i : ℕ) → Running keys from i → i < length keys → (get_or keys i 0 ≡ key → ⊥) → i ≡ from + run key (drop from keys)
-  unfolding run
-  run_stop i w h e =
-      let none : run key (drop i keys) ≡ 0 = rw (drop-cons keys i 0 h, ne_eqb (get_or keys i 0) key e) in
-      omega (arith, w.same_end, none)
-
-  pub run_last : (i : ℕ) → Running keys from i → length keys ≤ i → i ≡ from + run key (drop from keys)
-  unfolding run
-  run_last i w h =
-      let none : run key (drop i keys) ≡ 0 = rw (drop_of_length-le keys h) in
-      omega (arith, w.same_end, none)
+-- the run ends at the first key that is another, or with the list
+pub first_other : (key : ℕ) (keys : List ℕ) {r : Option ℕ} → r ≡ position (λ j. not (eqb j key)) keys → unwrap_or r (length keys) ≡ run key keys
+unfolding run
+first_other key keys e =
+    rw e
+    (by_test (ltb (position_or_len (λ j. not (eqb j key)) keys) (length keys)) (λ t. rw t same)
+    (λ t. rw t (omega (arith, ltb-false _ _ t, same, run-most key keys))))
+  where
+    same : position_or_len (λ j. not (eqb j key)) keys ≡ run key keys
+    same = sym (is_position_or_len (run key) (λ j. not (eqb j key)) refl (λ x xs. by_test (eqb x key) (λ t. rw t (omega arith)) (λ t. rw t refl)) keys)

@@ -9,7 +9,7 @@ use Rattle.directory_insert.proofs.store_all.Given as goal
 
 abbrev pub invariant-loop-key : goal.invariant-loop-key
 invariant-loop-key l = record {
-  stores : BecomesBoth (put_in l.id.0 l.at (take l.key-index l.into)) (lent_mut l.fn.library) (kept_mut l.fn.directory) (lent_mut l.library) (kept_mut l.directory);
+  stores : BecomesBoth (put_in l.mark.id.0 l.mark.at (take l.key-index l.into)) (lent_mut l.fn.library) (kept_mut l.fn.directory) (lent_mut l.library) (kept_mut l.directory);
   same_lists : SameLists l.fn.library l.library;
   same_places : SamePlaces l.fn.directory l.directory;
 }

@@ -3,7 +3,6 @@ use Rattle.std.proofs.Common.{ℕ, ◌^◌, ◌≤◌, arith, [], ◌∷◌, Flo
 use Rattle.basics.specs.Lists.{zip_with}
 use Rattle.basics.proofs.Lists.{take_zip}
 use Rattle.floats.specs.Rounded.{◌⊕◌, ◌⊗◌, ◌⊘◌, of_nat, pow2}
-use Rattle.geometry.proofs.Axes.{padded}
 use Rattle.grid.specs.Containers.{centre}
 use Rattle.grid.proofs.InUse.{small, indices-are}
 use Rattle.grid.proofs.container_center.Goals as goal
@@ -24,5 +23,5 @@ pub returns : goal.returns
 unfolding centre zip_with
 returns c =
     let a = c.args in
-    rw (← indices-are a.ndim.n c.args.ndim.two_or_three a.ndiv a.key.0 c.pivot_indices-pivot.result c.pivot_indices-pivot.ensures, ← take_zip (λ (x : Float) (i : ℕ). x ⊕ of_nat i ⊗ a.side_length ⊕ a.side_length ⊘ pow2 1) a.ndim.n (a.xmin.x ∷ a.xmin.y ∷ a.xmin.z ∷ []) (c.pivot_indices-pivot.result.i ∷ c.pivot_indices-pivot.result.j ∷ c.pivot_indices-pivot.result.k ∷ []), c.middle.ensures, c.middle-2.ensures, c.middle-3.ensures)
-    (padded a.ndim.n _ _ _ c.args.ndim.two_or_three)
+    rw (← indices-are a.ndim.n c.args.ndim.two_or_three a.ndiv a.key.0 c.pivot_indices-pivot.result c.pivot_indices-pivot.ensures, ← take_zip (λ (x : Float) (i : ℕ). x ⊕ of_nat i ⊗ a.side_length ⊕ a.side_length ⊘ pow2 1) a.ndim.n (a.xmin.x ∷ a.xmin.y ∷ a.xmin.z ∷ []) (c.pivot_indices-pivot.result.i ∷ c.pivot_indices-pivot.result.j ∷ c.pivot_indices-pivot.result.k ∷ []), ← c.middle.ensures, ← c.middle-2.ensures, ← c.middle-3.ensures)
+    c.in_use.ensures

@@ -19,11 +19,11 @@ same_axes n h p q = eq-eqb (length (coords n q)) (length (coords n p)) (both-len
 pub returns-in_err-settings_fault : goal.returns-in_err-settings_fault
 unfolding of_bits
 returns-in_err-settings_fault c =
-    let a = c.args in
+    let a = c.args.settings in
     let lo = coords a.ndim.n a.low in
     let hi = coords a.ndim.n a.high in
     raised_answer _ c.in_err-settings_fault.field-0.0 c.from_residual.result c.from_residual.ensures
-    ∙ refused_by lo hi a.number a.tolerance a.border_tol (axes a.ndim.n c.args.ndim.two_or_three a.low) (same_axes a.ndim.n c.args.ndim.two_or_three a.low a.high) _
+    ∙ refused_by lo hi a.number a.tolerance a.border_tol (axes a.ndim.n c.args.settings.ndim.two_or_three a.low) (same_axes a.ndim.n c.args.settings.ndim.two_or_three a.low a.high) _
     (c.in_err-settings_fault.ensures
     ∙ ap fault (tests-are lo hi a.number a.tolerance a.border_tol _ _ _ c.unwrap_or-ndiv_long.ensures c.unwrap_or-tol.ensures c.unwrap_or-border.ensures))
 
@@ -32,19 +32,19 @@ built-sheet-requires-clause-in_order c = (in_force-passed _ _ _ _ _ (sym c.in_ok
 
 pub built-sheet-requires-clause-least : goal.built-sheet-requires-clause-least
 built-sheet-requires-clause-least c =
-    rw (← number-is c.args.number, ← c.unwrap_or-ndiv_long.ensures) (in_force-passed _ _ _ _ _ (sym c.in_ok-settings_fault.ensures)).least
+    rw (← number-is c.args.settings.number, ← c.unwrap_or-ndiv_long.ensures) (in_force-passed _ _ _ _ _ (sym c.in_ok-settings_fault.ensures)).least
 
 pub built-sheet-requires-clause-most : goal.built-sheet-requires-clause-most
 built-sheet-requires-clause-most c =
-    rw (← number-is c.args.number, ← c.unwrap_or-ndiv_long.ensures) (in_force-passed _ _ _ _ _ (sym c.in_ok-settings_fault.ensures)).most
+    rw (← number-is c.args.settings.number, ← c.unwrap_or-ndiv_long.ensures) (in_force-passed _ _ _ _ _ (sym c.in_ok-settings_fault.ensures)).most
 
 pub returns-then-sheet-tol : goal.returns-then-sheet-tol
 unfolding of_bits
 returns-then-sheet-tol c =
-    let a = c.args in
+    let a = c.args.settings in
     let lo = coords a.ndim.n a.low in
     let hi = coords a.ndim.n a.high in
-    refused_10 lo hi a.number a.tolerance a.border_tol (axes a.ndim.n c.args.ndim.two_or_three a.low) (same_axes a.ndim.n c.args.ndim.two_or_three a.low a.high)
+    refused_10 lo hi a.number a.tolerance a.border_tol (axes a.ndim.n c.args.settings.ndim.two_or_three a.low) (same_axes a.ndim.n c.args.settings.ndim.two_or_three a.low a.high)
     (c.in_ok-settings_fault.ensures
     ∙ ap fault (tests-are lo hi a.number a.tolerance a.border_tol _ _ _ c.unwrap_or-ndiv_long.ensures c.unwrap_or-tol.ensures c.unwrap_or-border.ensures))
     (rw (← tolerance-is a.tolerance, ← c.unwrap_or-tol.ensures, ← c.built-sheet.ensures) c.if-sheet-tol.true)
@@ -52,11 +52,11 @@ returns-then-sheet-tol c =
 pub returns : goal.returns
 unfolding of_bits
 returns c =
-    let a = c.args in
+    let a = c.args.settings in
     let lo = coords a.ndim.n a.low in
     let hi = coords a.ndim.n a.high in
     ap success c.built-sheet.ensures
-    ∙ all_passed lo hi a.number a.tolerance a.border_tol (axes a.ndim.n c.args.ndim.two_or_three a.low) (same_axes a.ndim.n c.args.ndim.two_or_three a.low a.high)
+    ∙ all_passed lo hi a.number a.tolerance a.border_tol (axes a.ndim.n c.args.settings.ndim.two_or_three a.low) (same_axes a.ndim.n c.args.settings.ndim.two_or_three a.low a.high)
     (c.in_ok-settings_fault.ensures
     ∙ ap fault (tests-are lo hi a.number a.tolerance a.border_tol _ _ _ c.unwrap_or-ndiv_long.ensures c.unwrap_or-tol.ensures c.unwrap_or-border.ensures))
     (rw (← tolerance-is a.tolerance, ← c.unwrap_or-tol.ensures, ← c.built-sheet.ensures) c.if-sheet-tol.false)
