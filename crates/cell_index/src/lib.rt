@@ -25,7 +25,7 @@ pub struct SoundIndex<'a, 'b, 'c> {
     pub grid: GridCells,
     pub mesh: WholeMesh<'a, 'b>,
     pub lists: IndexLists<'c>,
-    pub ghost axes: { mesh.mesh.ndim ≡ grid.ndim },
+    pub ghost axes: { mesh.ndim.n ≡ grid.ndim },
     pub ghost sound: { sound_index grid (cell_count grid.ndim (seen mesh.mesh)) (lent lists) ≡ true },
 }
 
@@ -150,8 +150,8 @@ impl<'a, 'b, 'c> SoundIndex<'a, 'b, 'c> {
             ndim: grid.ndim,
             ..mesh
         };
-        grid_cells::refusals::sizes_fault(mesh, lists)?;
-        let mesh = mesh.whole()?;
+        let ndim = grid_cells::refusals::sizes_fault(mesh, lists)?;
+        let mesh = mesh.whole(ndim)?;
         if !is_sound(grid, mesh.cell_count(), lists) {
             return Err(Refusal::Damaged);
         }

@@ -11,7 +11,7 @@ use Rattle.cell_sizes.proofs.measure.Goals as goal
 
 pub part-requires-clause-a : goal.part-requires-clause-a
 part-requires-clause-a c =
-    let n = c.args.mesh.mesh.ndim in
+    let n = c.args.mesh.ndim.n in
     let m = seen c.args.mesh.mesh in
     let limit = c.args.settings.large_cutoff ⊗ c.surround-all.result.largest in
     omega (arith, few-numbered (is_large limit) 0 (boxes n m), length-boxes n m, c.count_large-found.ensures.large)
@@ -19,7 +19,7 @@ part-requires-clause-a c =
 pub returns-then-part-settings : goal.returns-then-part-settings
 unfolding of_bits
 returns-then-part-settings c =
-    let n = c.args.mesh.mesh.ndim in
+    let n = c.args.mesh.ndim.n in
     let m = seen c.args.mesh.mesh in
     let t = c.args.settings in
     let limit = t.large_cutoff ⊗ c.surround-all.result.largest in
@@ -29,7 +29,7 @@ returns-then-part-settings c =
 
 pub returns : goal.returns
 returns c =
-    let n = c.args.mesh.mesh.ndim in
+    let n = c.args.mesh.ndim.n in
     let m = seen c.args.mesh.mesh in
     let t = c.args.settings in
     let limit = t.large_cutoff ⊗ c.surround-all.result.largest in
