@@ -69,8 +69,7 @@ fn is_good(grid: GridCells) -> bool
     let ndim = Dimension { n: grid.ndim };
     is_side(grid.side_length)
         & (grid::divisions_ok(ndim, grid.ndiv)
-            & (corner_ok(ndim, grid.xmin)
-                & (corner_ok(ndim, grid.xmax) & are_ordered(ndim, grid))))
+            & (corner_ok(ndim, grid.xmin) & (corner_ok(ndim, grid.xmax) & are_ordered(ndim, grid))))
 }
 
 // Whether the lists hold what the index says is in use.

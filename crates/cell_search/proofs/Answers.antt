@@ -21,8 +21,8 @@ use Rattle.geometry.specs.Position.{coords, position_of}
 use Rattle.geometry.proofs.Axes.{coords_of}
 use Rattle.geometry.specs.Cells.{zetas}
 use Rattle.floats.specs.Rounded.{zero_f}
-use Rattle.mesh.specs.Mesh.{Mesh, seen, corner_points}
-use Rattle.mesh.specs.Cell.{cell_zeta, contains}
+use Rattle.mesh.specs.Mesh.{Mesh, seen}
+use Rattle.mesh.specs.Cell.{contains}
 use Rattle.cell_rows.specs.Filing.{cell_key, cell_exceeds}
 use Rattle.cell_rows.proofs.Corners.{key-small}
 use Rattle.cell_rows.specs.declared.Containers.{Containers}

@@ -74,6 +74,7 @@ impl GridCells {
     pub const LARGE_PCT: f64 = 0.2;
 
     // Where its containers lie.
+    // Kept: of the same shape as a directory's `as_directory`, but the fields are others, and no trait would join the two.
     pub fn containers(self) -> Containers
         ensures { result ≡ containers_of self }
     {

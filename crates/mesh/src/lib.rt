@@ -111,6 +111,7 @@ impl<'a, 'b> Mesh<'a, 'b> {
     }
 
     // The number of the point at corner k of a cell.
+    #[tactic(auto, using(crate::proofs::Whole::part_in, crate::proofs::Whole::corner_names), unfolding(crate::specs::Mesh::cell_count))]
     pub fn corner_point(self, ndim: Dimension, cell: usize, k: usize) -> usize
         requires cell { cell < cell_count ndim.n (seen self) }
         requires corner { k ≤ ndim.n }

@@ -25,7 +25,8 @@ returns-then-part-settings c =
     let limit = t.large_cutoff ⊗ c.surround-all.result.largest in
     let longest : c.unwrap_or.result ≡ unwrap_or c.count_large-found.result.longest zero_f = c.unwrap_or.ensures in
     rw longest
-    (sized_apart n m t c.surround-all.result limit c.count_large-found.result c.cell_count.result c.part.result c.surround-all.ensures refl c.count_large-found.ensures c.cell_count.ensures c.part.ensures c.if-part-settings.true)
+    (sized_apart n m t c.surround-all.result limit c.count_large-found.result c.cell_count.result c.part.result
+    c.surround-all.ensures refl c.count_large-found.ensures c.cell_count.ensures c.part.ensures c.if-part-settings.true)
 
 pub returns : goal.returns
 returns c =
@@ -33,4 +34,5 @@ returns c =
     let m = seen c.args.mesh.mesh in
     let t = c.args.settings in
     let limit = t.large_cutoff ⊗ c.surround-all.result.largest in
-    sized_filed n m t c.surround-all.result limit c.count_large-found.result c.cell_count.result c.part.result c.surround-all.ensures refl c.count_large-found.ensures c.cell_count.ensures c.part.ensures c.if-part-settings.false
+    sized_filed n m t c.surround-all.result limit c.count_large-found.result c.cell_count.result c.part.result
+    c.surround-all.ensures refl c.count_large-found.ensures c.cell_count.ensures c.part.ensures c.if-part-settings.false

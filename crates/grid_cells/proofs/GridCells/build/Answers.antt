@@ -15,10 +15,16 @@ returns-in_err-mesh-clause-builds c =
     ∙ refuse_early c.args.mesh.ndim (seen c.args.mesh) c.args.settings l (rw c.as_lists.ensures at c.in_err-mesh.ensures.judged)
 
 pub measure-sizes-requires-clause-some : goal.measure-sizes-requires-clause-some
-measure-sizes-requires-clause-some c = rw (c.in_ok-mesh.ensures.same.0, c.in_ok-mesh.ensures.same.1) (measurable c.args.mesh.ndim (seen c.args.mesh) c.args.settings (lent_mut c.args.lists.now) (sym (rw c.as_lists.ensures at c.in_ok-mesh.ensures.judged))).cells
+measure-sizes-requires-clause-some c =
+    let same = c.in_ok-mesh.ensures.same in
+    let early = sym (rw c.as_lists.ensures at c.in_ok-mesh.ensures.judged) in
+    rw (same.0, same.1) (measurable c.args.mesh.ndim (seen c.args.mesh) c.args.settings (lent_mut c.args.lists.now) early).cells
 
 pub measure-sizes-requires-clause-few : goal.measure-sizes-requires-clause-few
-measure-sizes-requires-clause-few c = rw (c.in_ok-mesh.ensures.same.0, c.in_ok-mesh.ensures.same.1) (measurable c.args.mesh.ndim (seen c.args.mesh) c.args.settings (lent_mut c.args.lists.now) (sym (rw c.as_lists.ensures at c.in_ok-mesh.ensures.judged))).few
+measure-sizes-requires-clause-few c =
+    let same = c.in_ok-mesh.ensures.same in
+    let early = sym (rw c.as_lists.ensures at c.in_ok-mesh.ensures.judged) in
+    rw (same.0, same.1) (measurable c.args.mesh.ndim (seen c.args.mesh) c.args.settings (lent_mut c.args.lists.now) early).few
 
 pub returns-in_err-grid-clause-builds : goal.returns-in_err-grid-clause-builds
 returns-in_err-grid-clause-builds c =

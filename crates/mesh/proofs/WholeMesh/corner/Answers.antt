@@ -20,4 +20,7 @@ returns c =
     let n = c.args.self.ndim.n in
     let m = seen c.args.self.mesh in
     let named = c.corner_point.ensures ∙ corner_names n m c.args.cell c.args.k c.requires.corner in
-    coords_of n (point_at n m c.corner_point.result) c.point.result c.args.self.ndim.two_or_three (length_point n m c.corner_point.result) c.point.ensures ∙ ap (point_at n m) named ∙ sym (corner_at n m c.args.cell c.args.k c.requires.corner)
+    let p = c.corner_point.result in
+    coords_of n (point_at n m p) c.point.result c.args.self.ndim.two_or_three (length_point n m p) c.point.ensures
+    ∙ ap (point_at n m) named
+    ∙ sym (corner_at n m c.args.cell c.args.k c.requires.corner)
