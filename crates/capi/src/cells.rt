@@ -90,8 +90,10 @@ fn build(
         (number_in result) (index_lists keys.new cells.new large.new) numbers.old numbers.new floats.old floats.new }
 {
     lists_fault(mesh, IndexLists { keys, cells, large }, numbers, floats)?;
-    let grid = mesh_view::grid_cells(
-        mesh,
+    let grid = mesh_view::build(
+        mesh.ndim,
+        mesh.coords,
+        mesh.corners,
         tolerance,
         border_tol,
         large_cutoff,

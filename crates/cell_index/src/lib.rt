@@ -25,7 +25,7 @@ pub struct SoundIndex<'a, 'b, 'c> {
     pub grid: GridCells,
     pub mesh: WholeMesh<'a, 'b>,
     pub lists: IndexLists<'c>,
-    pub ghost axes: { mesh.mesh.ndim ≡ grid.ndim },
+    pub ghost axes: { mesh.ndim.n ≡ grid.ndim },
     pub ghost sound: { sound_index grid (cell_count grid.ndim (seen mesh.mesh)) (lent lists) ≡ true },
 }
 
@@ -51,12 +51,13 @@ fn corner_ok(ndim: Dimension, p: Position) -> bool
     geometry::on_every_axis(ndim, is_corner(p.x), is_corner(p.y), is_corner(p.z))
 }
 
-// Whether the low corner is above the high one on no axis.
+// Whether the low corner of an index is above the high one on no axis.
 #[tactic(auto, using(crate::proofs::Sound::ordered_tests), unfolding(basics::specs::Lists::zip_with))]
-fn are_ordered(ndim: Dimension, xmin: Position, xmax: Position) -> bool
-    ensures { result ≡ ordered (axes ndim.n xmin) (axes ndim.n xmax) }
+fn are_ordered(ndim: Dimension, grid: GridCells) -> bool
+    ensures { result ≡ ordered (axes ndim.n grid.xmin) (axes ndim.n grid.xmax) }
 {
-    geometry::on_every_axis(ndim, xmin.x <= xmax.x, xmin.y <= xmax.y, xmin.z <= xmax.z)
+    let (low, high) = (grid.xmin, grid.xmax);
+    geometry::on_every_axis(ndim, low.x <= high.x, low.y <= high.y, low.z <= high.z)
 }
 
 // Whether the index by itself is good. In 2D the third axis is not judged.
@@ -68,8 +69,7 @@ fn is_good(grid: GridCells) -> bool
     let ndim = Dimension { n: grid.ndim };
     is_side(grid.side_length)
         & (grid::divisions_ok(ndim, grid.ndiv)
-            & (corner_ok(ndim, grid.xmin)
-                & (corner_ok(ndim, grid.xmax) & are_ordered(ndim, grid.xmin, grid.xmax))))
+            & (corner_ok(ndim, grid.xmin) & (corner_ok(ndim, grid.xmax) & are_ordered(ndim, grid))))
 }
 
 // Whether the lists hold what the index says is in use.
@@ -150,8 +150,8 @@ impl<'a, 'b, 'c> SoundIndex<'a, 'b, 'c> {
             ndim: grid.ndim,
             ..mesh
         };
-        grid_cells::refusals::sizes_fault(mesh, lists)?;
-        let mesh = mesh.whole()?;
+        let ndim = grid_cells::refusals::sizes_fault(mesh, lists)?;
+        let mesh = mesh.whole(ndim)?;
         if !is_sound(grid, mesh.cell_count(), lists) {
             return Err(Refusal::Damaged);
         }

@@ -17,6 +17,7 @@ impl CellKeys {
     ghost use Rattle.cell_rows.specs.Steps.{join_once};
 
     // None yet.
+    // Kept: not one with `Targets` of `rows`: that holds nine keys and not eight, and nothing of how great each is.
     #[tactic(auto, unfolding(basics::specs::Lists::all))]
     pub(crate) fn new() -> CellKeys
         ensures { held result ≡ [] }

@@ -36,7 +36,7 @@ pub struct Filing<'a, 'b> {
     pub grid: Containers,
     pub sizes: Sizes,
     pub mesh: WholeMesh<'a, 'b>,
-    pub ghost axes: { mesh.mesh.ndim ≡ grid.ndim },
+    pub ghost axes: { mesh.ndim.n ≡ grid.ndim },
     pub ghost divisions: { all division (counts grid.ndim grid.ndiv) ≡ true },
     pub ghost few: { cell_count grid.ndim (seen mesh.mesh) ≤ 65536 },
 }
@@ -177,12 +177,12 @@ impl<'a, 'b> Filing<'a, 'b> {
 
 // Writes the numbers of the large cells over the front of the lent list.
 fn list_large(mesh: WholeMesh, apart: Apart, large: &mut [u64])
-    requires { length (numbered (is_large apart.limit) 0 (boxes mesh.mesh.ndim (seen mesh.mesh))) ≤ length large.old }
-    ensures { large.new ≡ over (numbered (is_large apart.limit) 0 (boxes mesh.entry.mesh.ndim (seen mesh.entry.mesh))) large.old }
+    requires { length (numbered (is_large apart.limit) 0 (boxes mesh.ndim.n (seen mesh.mesh))) ≤ length large.old }
+    ensures { large.new ≡ over (numbered (is_large apart.limit) 0 (boxes mesh.entry.ndim.n (seen mesh.entry.mesh))) large.old }
 {
     let mut n = 0;
     for cell in 0..mesh.cell_count() {
-        if apart.is_large(Dimension { n: mesh.mesh.ndim }, mesh.bounding_box(cell)) {
+        if apart.is_large(mesh.ndim, mesh.bounding_box(cell)) {
             large[n] = cell as u64;
             n += 1;
         }
@@ -192,8 +192,8 @@ fn list_large(mesh: WholeMesh, apart: Apart, large: &mut [u64])
 // Writes the numbers of the large cells that are kept apart over the front of the lent list.
 #[tactic(auto, unfolding(cell_sizes::specs::Large::large_of, basics::specs::Lists::over))]
 pub fn write_large(mesh: WholeMesh, sizes: Sizes, large: &mut [u64])
-    requires { length (lists sizes (boxes mesh.mesh.ndim (seen mesh.mesh))) ≤ length large.old }
-    ensures { large.new ≡ over (lists sizes (boxes mesh.entry.mesh.ndim (seen mesh.entry.mesh))) large.old }
+    requires { length (lists sizes (boxes mesh.ndim.n (seen mesh.mesh))) ≤ length large.old }
+    ensures { large.new ≡ over (lists sizes (boxes mesh.entry.ndim.n (seen mesh.entry.mesh))) large.old }
 {
     if let Some(apart) = sizes.apart {
         list_large(mesh, apart, large);

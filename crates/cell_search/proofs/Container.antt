@@ -7,7 +7,7 @@ use mathlib.Core.Path.{◌≡◌, refl, sym, ap, ◌∙◌}
 use mathlib.Core.Logic.{inl, ⊎_elim}
 use mathlib.Core.Bool.{Bool, true, false}
 use mathlib.Core.Option as math
-use Rattle.std.specs.Prelude.{Option, Some, None, Ok, slice_range}
+use Rattle.std.specs.Prelude.{Option, Some, None, slice_range}
 use Rattle.std.proofs.lemmas.Slice.{between_is}
 use mathlib.Core.List.{List, [], ◌∷◌, ◌++◌, map}
 use lib.Dec.{eqb, ltb, leb}
@@ -18,7 +18,6 @@ use borrow.Author.Tests.{ltb-true, lt-ltb, eqb-true, eqb-false, ne_eqb, leb-true
 use Rattle.basics.proofs.Bools.{by_test, clash, and_both}
 use Rattle.basics.specs.Lists.{keep}
 use Rattle.basics.proofs.Lists.{length-tab, map-tab, map-take, map-drop, tab-take}
-use Rattle.basics.specs.Refusals.{success}
 use Rattle.floats.specs.Rounded.{zero_f}
 use Rattle.mesh.specs.Mesh.{Mesh}
 use Rattle.mesh.specs.Cell.{contains}
@@ -26,9 +25,10 @@ use Rattle.table.specs.Rows.{Slot, slotted, before, chain, sorted, lower, lead, 
 use Rattle.table.specs.Posts.{Ordered}
 use Rattle.table.proofs.Order.{Lex, before_lex, lex_before, chain-sorted, lower-le}
 use Rattle.table.proofs.First.{key-le, lead-lower}
-use Rattle.grid_cells.specs.declared.CellId.{CellId}
 use Rattle.cell_index.specs.Steps.{Numbers}
-use Rattle.cell_search.specs.Search.{first_cell, answer_cell, try_cells, CellSearch, found_cell, leaves}
+use Rattle.cell_search.specs.declared.Found.{Found}
+use Rattle.cell_search.specs.Search.{first_cell}
+use Rattle.cell_search.specs.Steps.{found_of, first_found}
 
 -- ---- the order of slots, by their keys
 
@@ -164,43 +164,27 @@ module _ (p : ℕ → Bool) where
   first-right [] b e = refl
   first-right (i ∷ a) b e = by_test (p i) (λ f. absurd (math.some-ne-none i (rw f at e))) (λ f. rw f (first-right a b (rw f at e)))
 
-nothing_is : (q : Option CellId) → found_cell (Ok q) ≡ success math.none → q ≡ None
-nothing_is None f = refl
-nothing_is (Some c) f = absurd (never f)
-  where
-    never : success (math.some c.0) ≡ success math.none → ⊥
-    never g = cc
-
-module _ (n : ℕ) (m : Mesh) (zeta x : List Float) (a b : List ℕ) (r : Option CellId) {zeta' : List Float} (e : leaves (Ok r) zeta' ≡ try_cells n m zeta x a) where
-  by_option : (o : math.Option ℕ) → first_cell (contains n m zero_f x) a ≡ o → leaves (Ok r) zeta' ≡ answer_cell n m zeta x o
-  unfolding try_cells
-  by_option o f = e ∙ ap (answer_cell n m zeta x) f
-
-  none-answer : first_cell (contains n m zero_f x) a ≡ math.none → (found_cell (Ok r) ≡ success math.none) × (zeta' ≡ zeta)
-  unfolding answer_cell
-  none-answer f = let g = by_option math.none f in (ap (λ (s : CellSearch). s.answer) g, ap (λ (s : CellSearch). s.zeta) g)
+module _ (n : ℕ) (m : Mesh) (x : List Float) (a b : List ℕ) {r : Option Found} (e : r ≡ first_found n m x a) where
+  abbrev p : ℕ → Bool
+  p = contains n m zero_f x
 
   -- a cell of the first list contains the position
-  pub found_first : (r ≡ None → ⊥) → leaves (Ok r) zeta' ≡ try_cells n m zeta x (a ++ b)
-  unfolding try_cells
-  found_first h = go (first_cell (contains n m zero_f x) a) refl
+  pub found_first : (r ≡ None → ⊥) → r ≡ first_found n m x (a ++ b)
+  unfolding first_found found_of
+  found_first h = go (first_cell p a) refl
     where
-      go : (o : math.Option ℕ) → first_cell (contains n m zero_f x) a ≡ o → leaves (Ok r) zeta' ≡ answer_cell n m zeta x (first_cell (contains n m zero_f x) (a ++ b))
-      go math.none f = absurd (h (nothing_is r (none-answer f).0))
-      go (math.some c) f = by_option (math.some c) f ∙ ap (answer_cell n m zeta x) (sym (first_left (contains n m zero_f x) a b c f))
+      go : (o : math.Option ℕ) → first_cell p a ≡ o → r ≡ found_of n m x (first_cell p (a ++ b))
+      go math.none f = absurd (h (e ∙ ap (found_of n m x) f))
+      go (math.some c) f = e ∙ ap (found_of n m x) (f ∙ sym (first_left p a b c f))
 
   -- none does
-  none_first : r ≡ None → (zeta' ≡ zeta) × (first_cell (contains n m zero_f x) (a ++ b) ≡ first_cell (contains n m zero_f x) b)
-  unfolding answer_cell
-  none_first h = go (first_cell (contains n m zero_f x) a) refl
+  pub found-second : r ≡ None → {s : Option Found} → s ≡ first_found n m x b → s ≡ first_found n m x (a ++ b)
+  unfolding first_found found_of
+  found-second h {s} g = go (first_cell p a) refl
     where
-      never : (c : ℕ) → success math.none ≡ success (math.some c) → ⊥
-      never c f = cc
+      never : {q : Found} → None ≡ Some q → ⊥
+      never f = cc
 
-      go : (o : math.Option ℕ) → first_cell (contains n m zero_f x) a ≡ o → (zeta' ≡ zeta) × (first_cell (contains n m zero_f x) (a ++ b) ≡ first_cell (contains n m zero_f x) b)
-      go math.none f = ((none-answer f).1, first-right (contains n m zero_f x) a b f)
-      go (math.some c) f = absurd (never c (ap (λ (q : Option CellId). found_cell (Ok q)) (sym h) ∙ ap (λ (s : CellSearch). s.answer) (by_option (math.some c) f)))
-
-  pub found-second : r ≡ None → (s : Option CellId) {zeta'' : List Float} → leaves (Ok s) zeta'' ≡ try_cells n m zeta' x b → leaves (Ok s) zeta'' ≡ try_cells n m zeta x (a ++ b)
-  unfolding try_cells
-  found-second h s g = let d = none_first h in g ∙ rw (d.0, d.1)
+      go : (o : math.Option ℕ) → first_cell p a ≡ o → s ≡ found_of n m x (first_cell p (a ++ b))
+      go math.none f = g ∙ ap (found_of n m x) (sym (first-right p a b f))
+      go (math.some c) f = absurd (never (sym h ∙ e ∙ ap (found_of n m x) f))

@@ -9,8 +9,7 @@ use mathlib.Core.Option.{some}
 use mathlib.Core.List.{List}
 use lib.ListN.{length, get_or, drop, drop_of_length-le}
 use lib.Seq.{drop-cons}
-use lib.Ieee.{Float, lt}
-use Rattle.basics.specs.Lists.{over}
+use lib.Ieee.{lt}
 use Rattle.floats.specs.Rounded.{zero_f}
 use Rattle.geometry.specs.declared.Position.{Position}
 use Rattle.geometry.specs.declared.Zeta.{Zeta}
@@ -21,8 +20,9 @@ use Rattle.grid.specs.Containers.{outside}
 use Rattle.mesh.specs.declared.BoundingBox.{BoundingBox}
 use Rattle.mesh.specs.Mesh.{Mesh, Box, corner_points, box_of, boxed}
 use Rattle.mesh.specs.Cell.{cell_zeta, contains}
-use Rattle.std.specs.Prelude.{Some, None, Ok}
-use Rattle.cell_search.specs.Search.{first_cell, answer_cell, try_cells, leaves}
+use Rattle.std.specs.Prelude.{Some, None}
+use Rattle.cell_search.specs.Search.{first_cell}
+use Rattle.cell_search.specs.Steps.{found_of, first_found}
 
 -- ---- the box of a cell, axis by axis
 
@@ -68,12 +68,11 @@ module _ (n : ℕ) (m : Mesh) (x : Position) (c : ℕ) (b : BoundingBox) (e : bo
 
 -- ---- one after the other
 
--- no cell before `at` contains the position, and the list of coordinates is as it was
-pub record Seeking (n : ℕ) (m : Mesh) (x : Position) (cells : List ℕ) (zeta₀ : List Float) (at : ℕ) (zeta : List Float) : Type 0 where
-  pub kept : zeta ≡ zeta₀
+-- no cell before `at` contains the position
+pub record Seeking (n : ℕ) (m : Mesh) (x : Position) (cells : List ℕ) (at : ℕ) : Type 0 where
   pub walk : first_cell (contains n m zero_f (coords n x)) cells ≡ first_cell (contains n m zero_f (coords n x)) (drop at cells)
 
-module _ {n : ℕ} {m : Mesh} {x : Position} {cells : List ℕ} {zeta₀ : List Float} {at : ℕ} {zeta : List Float} (w : Seeking n m x cells zeta₀ at zeta) where
+module _ {n : ℕ} {m : Mesh} {x : Position} {cells : List ℕ} {at : ℕ} (w : Seeking n m x cells at) where
   abbrev p : ℕ → Bool
   p = contains n m zero_f (coords n x)
 
@@ -82,27 +81,27 @@ module _ {n : ℕ} {m : Mesh} {x : Position} {cells : List ℕ} {zeta₀ : List 
     unfolding first_cell
     step = rw (add-one, drop-cons cells at 0 h)
 
-    passed : p (get_or cells at 0) ≡ false → Seeking n m x cells zeta₀ (at + 1) zeta
-    passed e = record { kept = w.kept; walk = w.walk ∙ step ∙ rw e }
+    passed : p (get_or cells at 0) ≡ false → Seeking n m x cells (at + 1)
+    passed e = record { walk = w.walk ∙ step ∙ rw e }
 
     module _ (b : BoundingBox) (e : boxed n b ≡ box_of n m (get_or cells at 0)) where
       -- outside the box
-      pub seek_box : outside_from n b x 0 ≡ true → Seeking n m x cells zeta₀ (at + 1) zeta
+      pub seek_box : outside_from n b x 0 ≡ true → Seeking n m x cells (at + 1)
       seek_box o = passed (not_in_box n m x (get_or cells at 0) b e o)
 
       module _ (o : outside_from n b x 0 ≡ false) {z : Zeta} (f : z ≡ cell_zeta n (corner_points n m (get_or cells at 0)) (coords n x)) {r : Bool} (g : r ≡ inside zero_f (zetas (n + 1) z)) where
         -- outside the cell
-        pub seek_coords : r ≡ false → Seeking n m x cells zeta₀ (at + 1) zeta
+        pub seek_coords : r ≡ false → Seeking n m x cells (at + 1)
         seek_coords k = passed (by_coords n m x (get_or cells at 0) b e o f g ∙ k)
 
         -- in it
-        pub seek_hit : r ≡ true → {zeta' : List Float} → zeta' ≡ over (zetas (n + 1) z) zeta → leaves (Ok (Some (record { 0 = get_or cells at 0 }))) zeta' ≡ try_cells n m zeta₀ (coords n x) cells
-        unfolding try_cells answer_cell
-        seek_hit k i =
+        pub seek_hit : r ≡ true → Some (record { cell = record { 0 = get_or cells at 0 }; zeta = z }) ≡ first_found n m (coords n x) cells
+        unfolding first_found found_of
+        seek_hit k =
             let found : first_cell p cells ≡ some (get_or cells at 0) = w.walk ∙ step ∙ rw (by_coords n m x (get_or cells at 0) b e o f g ∙ k) in
-            rw (found, i, f, w.kept)
+            rw (found, f)
 
   -- past the last
-  pub seek_end : length cells ≤ at → leaves (Ok None) zeta ≡ try_cells n m zeta₀ (coords n x) cells
-  unfolding try_cells answer_cell first_cell
-  seek_end h = rw (w.walk, drop_of_length-le cells h, w.kept)
+  pub seek_end : length cells ≤ at → None ≡ first_found n m (coords n x) cells
+  unfolding first_found found_of first_cell
+  seek_end h = rw (w.walk, drop_of_length-le cells h)

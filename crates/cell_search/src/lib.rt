@@ -1,7 +1,7 @@
 // Module 10: the cell at a position. From `GridCells::search` of gemlab's `mesh/grid_cells.rs`.
 #![tactic(auto)]
 
-ghost use Rattle.std.specs.Prelude.{◌+◌, ◌<◌, ◌≡◌, ◌||◌, ◌++◌, map, eqb, length, Ok};
+ghost use Rattle.std.specs.Prelude.{◌+◌, ◌<◌, ◌≡◌, ◌||◌, map, eqb, length};
 ghost use Rattle.std.specs.Float.Ieee.{lt};
 ghost use Rattle.basics.specs.Lists.{keep, over};
 ghost use Rattle.basics.specs.Refusals.{fault, answer};
@@ -14,8 +14,8 @@ ghost use Rattle.grid_cells.specs.Build.{containers_of, index_lists};
 ghost use Rattle.grid_cells.specs.Lent.{lent};
 ghost use Rattle.cell_index.specs.Index.{cell_rows};
 ghost use Rattle.cell_index.specs.Steps.{Numbers};
-ghost use Rattle.cell_search.specs.Search.{asked_tests, candidates, try_cells, cell_search, leaves};
-ghost use Rattle.cell_search.specs.Steps.{asked};
+ghost use Rattle.cell_search.specs.Search.{asked_tests, candidates, cell_search, leaves};
+ghost use Rattle.cell_search.specs.Steps.{asked, first_found};
 
 use basics::Refusal;
 use cell_index::SoundIndex;
@@ -23,6 +23,13 @@ use geometry::{Dimension, Position, Zeta};
 use grid::ContainerKey;
 use grid_cells::{CellId, GridCells, IndexLists};
 use mesh::{BoundingBox, Mesh, WholeMesh};
+
+// A cell that contains a position, and the position's coordinates in it.
+#[derive(Clone, Copy)]
+struct Found {
+    cell: CellId,
+    zeta: Zeta,
+}
 
 // Writes the coordinates of a position in a cell to the lent list: in 2D the fourth entry stays.
 fn write_zeta(ndim: Dimension, z: Zeta, zeta: &mut [f64])
@@ -41,48 +48,28 @@ fn is_beyond(b: BoundingBox, x: Position, i: usize) -> bool
     xi < b.low.axis(i) || xi > b.high.axis(i)
 }
 
-// The first of these cells that contains a position, with its coordinates in the lent list.
-fn find_cell(mesh: WholeMesh, cells: &[u64], x: Position, zeta: &mut [f64]) -> Option<CellId>
-    requires cells { Numbers mesh.mesh.ndim (seen mesh.mesh) cells.now }
-    requires room { length zeta.old ≡ 4 }
-    ensures { leaves (Ok result) zeta.new ≡ try_cells mesh.entry.mesh.ndim (seen mesh.entry.mesh) zeta.old (axes mesh.entry.mesh.ndim x) cells.now }
+// The first of these cells that contains a position.
+fn find_cell(mesh: WholeMesh, cells: &[u64], x: Position) -> Option<Found>
+    requires { Numbers mesh.ndim.n (seen mesh.mesh) cells.now }
+    ensures { result ≡ first_found mesh.entry.ndim.n (seen mesh.entry.mesh) (axes mesh.entry.ndim.n x) cells.now }
 {
-    let ndim = Dimension { n: mesh.mesh.ndim };
     'outer: for cell_id in cells {
         let cell = *cell_id as usize;
         let b = mesh.bounding_box(cell);
-        for i in 0..ndim.n {
+        for i in 0..mesh.ndim.n {
             if is_beyond(b, x, i) {
                 continue 'outer; // outside the bounding box
             }
         }
-        let z = mesh.cell_coords(cell, x);
-        if mesh::in_cell(ndim, z) {
-            write_zeta(ndim, z, zeta);
-            return Some(CellId(*cell_id));
+        let zeta = mesh.cell_coords(cell, x);
+        if mesh::in_cell(mesh.ndim, zeta) {
+            return Some(Found {
+                cell: CellId(*cell_id),
+                zeta,
+            });
         }
     }
     None // none contains the position
-}
-
-// The first of two lists' cells that contains a position: those of the second list are tried after those of the first.
-fn find_either(
-    mesh: WholeMesh,
-    first: &[u64],
-    second: &[u64],
-    x: Position,
-    zeta: &mut [f64],
-) -> Option<CellId>
-    requires first { Numbers mesh.mesh.ndim (seen mesh.mesh) first.now }
-    requires second { Numbers mesh.mesh.ndim (seen mesh.mesh) second.now }
-    requires room { length zeta.old ≡ 4 }
-    ensures { leaves (Ok result) zeta.new ≡ try_cells mesh.entry.mesh.ndim (seen mesh.entry.mesh) zeta.old (axes mesh.entry.mesh.ndim x) (first.now ++ second.now) }
-{
-    let found = find_cell(mesh, first, x, zeta);
-    match found {
-        Some(_) => found,
-        None => find_cell(mesh, second, x, zeta),
-    }
 }
 
 // The cells of a container's rows: they stand together.
@@ -98,15 +85,15 @@ fn own_cells<'c>(index: SoundIndex<'_, '_, 'c>, key: ContainerKey) -> &'c [u64]
 }
 
 // The first large cell that contains a position, and else the first of its container's.
-fn find(index: SoundIndex, key: ContainerKey, x: Position, zeta: &mut [f64]) -> Option<CellId>
-    requires key { key.0 < 1073741824 }
-    requires room { length zeta.old ≡ 4 }
-    ensures { leaves (Ok result) zeta.new
-        ≡ try_cells index.entry.grid.ndim (seen index.entry.mesh.mesh) zeta.old (axes index.entry.grid.ndim x) (candidates index.entry.grid (lent index.entry.lists) key.0) }
+fn find(index: SoundIndex, key: ContainerKey, x: Position) -> Option<Found>
+    requires { key.0 < 1073741824 }
+    ensures { result ≡ first_found index.entry.grid.ndim (seen index.entry.mesh.mesh) (axes index.entry.grid.ndim x) (candidates index.entry.grid (lent index.entry.lists) key.0) }
 {
     let large = &index.lists.large[..index.grid.large];
-    let own = own_cells(index, key);
-    find_either(index.mesh, large, own, x, zeta)
+    match find_cell(index.mesh, large, x) {
+        None => find_cell(index.mesh, own_cells(index, key), x),
+        found => found,
+    }
 }
 
 // The container of a position, or the refusal 25, 2, 3, 11 or 17.
@@ -124,7 +111,7 @@ fn locate(index: SoundIndex, nzeta: usize, x: &[f64]) -> Result<ContainerKey, Re
         return Err(Refusal::Limit);
     }
     let at = Position::new(x);
-    if grid::is_outside(Dimension { n: grid.ndim }, grid.xmin, grid.xmax, at) {
+    if grid::is_outside(index.mesh.ndim, grid.xmin, grid.xmax, at) {
         return Err(Refusal::Outside);
     }
     grid.containers().container(at).ok_or(Refusal::Ratio)
@@ -144,10 +131,15 @@ pub fn search_mesh(
 {
     let index = SoundIndex::new(grid, mesh, lists)?;
     let key = locate(index, zeta.len(), x)?;
-    Ok(find(index, key, Position::new(x), zeta))
+    let Some(found) = find(index, key, Position::new(x)) else {
+        return Ok(None); // no cell contains the position
+    };
+    write_zeta(index.mesh.ndim, found.zeta, zeta);
+    Ok(Some(found.cell))
 }
 
 // The same over plain slices.
+// Kept: what it takes is gemlab's and C's, plain slices one by one; `search_mesh` is over the structs.
 pub fn search(
     grid: GridCells,
     coords: &[f64],

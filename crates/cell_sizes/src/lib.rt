@@ -119,10 +119,10 @@ impl Sizes {
 
 // The box around all cells, and the largest length of any.
 fn surround(mesh: WholeMesh) -> Extent
-    requires { 0 < cell_count mesh.mesh.ndim (seen mesh.mesh) }
-    ensures { Around mesh.entry.mesh.ndim (seen mesh.entry.mesh) result }
+    requires { 0 < cell_count mesh.ndim.n (seen mesh.mesh) }
+    ensures { Around mesh.entry.ndim.n (seen mesh.entry.mesh) result }
 {
-    let ndim = Dimension { n: mesh.mesh.ndim };
+    let ndim = mesh.ndim;
     let first = mesh.bounding_box(0);
     let mut all = Extent {
         limits: first,
@@ -136,10 +136,10 @@ fn surround(mesh: WholeMesh) -> Extent
 
 // How many cells are large, and the largest length of the others.
 fn count_large(mesh: WholeMesh, limit: f64) -> Census
-    requires { cell_count mesh.mesh.ndim (seen mesh.mesh) ≤ 65536 }
-    ensures { Counted mesh.entry.mesh.ndim (seen mesh.entry.mesh) limit result }
+    requires { cell_count mesh.ndim.n (seen mesh.mesh) ≤ 65536 }
+    ensures { Counted mesh.entry.ndim.n (seen mesh.entry.mesh) limit result }
 {
-    let ndim = Dimension { n: mesh.mesh.ndim };
+    let ndim = mesh.ndim;
     let mut found = Census {
         large: 0,
         longest: None,
@@ -161,9 +161,9 @@ fn part(a: usize, b: usize) -> f64
 
 // What the cells measure.
 pub fn measure(mesh: WholeMesh, settings: Settings) -> Sizes
-    requires some { 0 < cell_count mesh.mesh.ndim (seen mesh.mesh) }
-    requires few { cell_count mesh.mesh.ndim (seen mesh.mesh) ≤ 65536 }
-    ensures { Sized mesh.entry.mesh.ndim (seen mesh.entry.mesh) settings result }
+    requires some { 0 < cell_count mesh.ndim.n (seen mesh.mesh) }
+    requires few { cell_count mesh.ndim.n (seen mesh.mesh) ≤ 65536 }
+    ensures { Sized mesh.entry.ndim.n (seen mesh.entry.mesh) settings result }
 {
     let all = surround(mesh);
     let limits = all.limits;

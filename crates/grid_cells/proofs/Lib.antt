@@ -1,6 +1,5 @@
 -- Laws of a build: ways through its tests, its index without rows, its steps, and one triangle evaluated.
 pub mod Ways
-pub mod Early
 mod Frames
 mod Builds
 pub mod Examples

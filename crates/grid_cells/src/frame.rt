@@ -67,14 +67,14 @@ fn is_nothing_filed(sizes: Sizes, ncell: usize) -> bool
 
 // The index with no rows yet, or the refusal 23, 22 or 6.
 pub fn frame(mesh: WholeMesh, sizes: Sizes, settings: Settings) -> Result<GridCells, Refusal>
-    requires { Sized mesh.mesh.ndim (seen mesh.mesh) settings sizes }
-    ensures { built result ≡ answer (fault (frame_tests mesh.entry.mesh.ndim (measure_of mesh.entry.mesh.ndim (seen mesh.entry.mesh) settings) settings))
-        (index mesh.entry.mesh.ndim (measure_of mesh.entry.mesh.ndim (seen mesh.entry.mesh) settings) settings) }
+    requires { Sized mesh.ndim.n (seen mesh.mesh) settings sizes }
+    ensures { built result ≡ answer (fault (frame_tests mesh.entry.ndim.n (measure_of mesh.entry.ndim.n (seen mesh.entry.mesh) settings) settings))
+        (index mesh.entry.ndim.n (measure_of mesh.entry.ndim.n (seen mesh.entry.mesh) settings) settings) }
 {
     if is_nothing_filed(sizes, mesh.cell_count()) {
         return Err(Refusal::AllLarge);
     }
-    let ndim = Dimension { n: mesh.mesh.ndim };
+    let ndim = mesh.ndim;
     let limits = sizes.limits;
     let xmin = grid_search::lowered(ndim, settings.border_tol, limits.low);
     let high = grid_search::raised(ndim, settings.border_tol, limits.high);

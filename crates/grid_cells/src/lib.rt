@@ -40,20 +40,26 @@ pub struct GridCells {
     pub large: usize,
 }
 
-// The settings in force.
-fn in_force(
-    tolerance: Option<f64>,
-    border_tol: Option<f64>,
-    large_cutoff: Option<f64>,
-    large_pct: Option<f64>,
-) -> Settings
-    ensures { result ≡ settings_of tolerance border_tol large_cutoff large_pct }
-{
-    Settings {
-        tolerance: tolerance.unwrap_or(GridCells::TOLERANCE),
-        border_tol: border_tol.unwrap_or(GridCells::BORDER_TOL),
-        large_cutoff: large_cutoff.unwrap_or(GridCells::LARGE_CUTOFF),
-        large_pct: large_pct.unwrap_or(GridCells::LARGE_PCT),
+// The settings of a build as given: each may be left out.
+#[derive(Clone, Copy)]
+pub struct OptionalSettings {
+    pub tolerance: Option<f64>,
+    pub border_tol: Option<f64>,
+    pub large_cutoff: Option<f64>,
+    pub large_pct: Option<f64>,
+}
+
+impl OptionalSettings {
+    // The settings in force.
+    pub fn in_force(self) -> Settings
+        ensures { result ≡ settings_of self.tolerance self.border_tol self.large_cutoff self.large_pct }
+    {
+        Settings {
+            tolerance: self.tolerance.unwrap_or(GridCells::TOLERANCE),
+            border_tol: self.border_tol.unwrap_or(GridCells::BORDER_TOL),
+            large_cutoff: self.large_cutoff.unwrap_or(GridCells::LARGE_CUTOFF),
+            large_pct: self.large_pct.unwrap_or(GridCells::LARGE_PCT),
+        }
     }
 }
 
@@ -68,6 +74,7 @@ impl GridCells {
     pub const LARGE_PCT: f64 = 0.2;
 
     // Where its containers lie.
+    // Kept: of the same shape as a directory's `as_directory`, but the fields are others, and no trait would join the two.
     pub fn containers(self) -> Containers
         ensures { result ≡ containers_of self }
     {
@@ -86,7 +93,7 @@ impl GridCells {
         mesh: WholeMesh,
         lists: &mut IndexListsMut,
     ) -> Result<GridCells, Refusal>
-        requires { Finishable self sizes mesh.mesh.ndim (seen mesh.mesh) (lent_mut lists.old) }
+        requires { Finishable self sizes mesh.ndim.n (seen mesh.mesh) (lent_mut lists.old) }
         ensures files { leaves result (lent_mut lists.new)
             ≡ finish_of self (kept sizes.apart) (limit_in sizes.apart) (boxes self.ndim (seen mesh.entry.mesh)) (lent_mut lists.old) }
         ensures same_lists { SameLists lists.old lists.new }
@@ -122,6 +129,7 @@ impl GridCells {
     }
 
     // The index of a mesh in plain slices, by settings as given: `build`, with its lists.
+    // Kept: what it takes is gemlab's and C's, plain slices and settings one by one; `build` and `in_force` are over the structs.
     pub fn new(
         ndim: usize,
         coords: &[f64],
@@ -137,8 +145,17 @@ impl GridCells {
         ensures { leaves_lists result keys.new cells.new large.new
             ≡ build ndim (mesh_of coords.now corners.now) (settings_of tolerance border_tol large_cutoff large_pct) (index_lists keys.old cells.old large.old) }
     {
-        let settings = in_force(tolerance, border_tol, large_cutoff, large_pct);
+        let settings = OptionalSettings {
+            tolerance,
+            border_tol,
+            large_cutoff,
+            large_pct,
+        };
         let mut lists = IndexListsMut { keys, cells, large };
-        Self::build(Mesh::new(ndim, coords, corners), settings, &mut lists)
+        Self::build(
+            Mesh::new(ndim, coords, corners),
+            settings.in_force(),
+            &mut lists,
+        )
     }
 }

@@ -4,7 +4,7 @@ ghost use Rattle.basics.specs.Answers.{fault_in};
 ghost use Rattle.basics.specs.Lists.{all};
 ghost use Rattle.basics.specs.Refusals.{fault};
 ghost use Rattle.floats.specs.Tests.{finite};
-ghost use Rattle.geometry.specs.Position.{coordinate, dimension};
+ghost use Rattle.geometry.specs.Position.{coordinate};
 ghost use Rattle.mesh.specs.Mesh.{seen};
 ghost use Rattle.grid_cells.specs.Build.{lists_too_long, size_tests, not_part, settings_ok, given_tests};
 ghost use Rattle.grid_cells.specs.Lent.{lent};
@@ -26,16 +26,17 @@ impl IndexLists<'_> {
     }
 }
 
-// The dimension, and the lists by their lengths: 1 or 24.
+// The mesh's dimension, or what turns it or the lists by their lengths away: 1 or 24.
 #[tactic(auto, unfolding(basics::specs::Refusals::fault, crate::specs::Build::size_tests))]
-pub fn sizes_fault(mesh: Mesh, lists: IndexLists) -> Result<(), Refusal>
-    ensures { fault_in result ≡ fault (size_tests mesh.entry.ndim (seen mesh.entry) (lent lists.entry)) }
+pub fn sizes_fault(mesh: Mesh, lists: IndexLists) -> Result<Dimension, Refusal>
+    ensures judged { fault_in result ≡ fault (size_tests mesh.entry.ndim (seen mesh.entry) (lent lists.entry)) }
+    ensures same { IfOk result (λ d. d.n ≡ mesh.entry.ndim) }
 {
-    Dimension::try_from(mesh.ndim)?;
-    if mesh.is_too_long() | lists.is_too_long() {
+    let ndim = Dimension::try_from(mesh.ndim)?;
+    if mesh.is_too_long(ndim) | lists.is_too_long() {
         return Err(Refusal::TooLong);
     }
-    Ok(())
+    Ok(ndim)
 }
 
 // Whether a cutoff or a percentage lies outside 0 to 1.
@@ -68,18 +69,18 @@ fn are_values_ok(coords: &[f64], t: Settings) -> bool
 // the mesh and the settings.
 #[tactic(auto, unfolding(basics::specs::Refusals::fault, crate::specs::Build::given_tests))]
 fn given<'a, 'b>(
+    ndim: Dimension,
     mesh: Mesh<'a, 'b>,
     t: Settings,
     lists: IndexLists,
 ) -> Result<WholeMesh<'a, 'b>, Refusal>
-    requires { dimension mesh.ndim ≡ true }
-    ensures judged { fault_in result ≡ fault (given_tests mesh.entry.ndim (seen mesh.entry) t (lent lists.entry)) }
-    ensures same { IfOk result (λ w. w.mesh ≡ mesh.entry) }
+    ensures judged { fault_in result ≡ fault (given_tests ndim.n (seen mesh.entry) t (lent lists.entry)) }
+    ensures same { IfOk result (λ w. (w.ndim.n ≡ ndim.n) × (w.mesh ≡ mesh.entry)) }
 {
     if lists.cells.len() != lists.keys.len() {
         return Err(Refusal::Damaged);
     }
-    let whole = mesh.whole()?;
+    let whole = mesh.whole(ndim)?;
     if !are_values_ok(mesh.coords, t) {
         return Err(Refusal::Limit);
     }
@@ -108,8 +109,8 @@ pub fn judged<'a, 'b>(
     lists: IndexLists,
 ) -> Result<WholeMesh<'a, 'b>, Refusal>
     ensures judged { fault_in result ≡ fault (early_tests mesh.entry.ndim (seen mesh.entry) settings (lent lists.entry)) }
-    ensures same { IfOk result (λ w. w.mesh ≡ mesh.entry) }
+    ensures same { IfOk result (λ w. (w.ndim.n ≡ mesh.entry.ndim) × (w.mesh ≡ mesh.entry)) }
 {
-    sizes_fault(mesh, lists)?;
-    given(mesh, settings, lists)
+    let ndim = sizes_fault(mesh, lists)?;
+    given(ndim, mesh, settings, lists)
 }

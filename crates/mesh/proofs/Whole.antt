@@ -23,10 +23,14 @@ use Rattle.mesh.specs.Mesh.{Mesh, point_count, cell_count, broken_mesh, Whole, p
 whole_parts : (d x n : ℕ) → 0 < d → x < n / d → x * d + d ≤ n
 whole_parts d x n p h = rw (← suc-mul x d) ((le-div_iff_mul-le p).0 h)
 
+-- an entry of a whole part is in the list
+pub part_in : (n : ℕ) (l : List ℕ) (c k : ℕ) → c < length l / (n + 1) → k ≤ n → c * (n + 1) + k < length l
+part_in n l c k h i = omega (arith, whole_parts (n + 1) c (length l) (omega arith) h)
+
 -- a cell's corners are in the list
 pub corner_in : (n : ℕ) (m : Mesh) (c k : ℕ) → c < cell_count n m → k ≤ n → c * (n + 1) + k < length m.corners
 unfolding cell_count
-corner_in n m c k h l = omega (arith, whole_parts (n + 1) c (length m.corners) (omega arith) h)
+corner_in n m c k h l = part_in n m.corners c k h l
 
 -- the point that a corner names
 pub corner_names : (n : ℕ) (m : Mesh) (c k : ℕ) → k ≤ n → get_or (corners_of n m c) k 0 ≡ get_or m.corners (c * (n + 1) + k) 0

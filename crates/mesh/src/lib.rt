@@ -6,7 +6,7 @@ ghost use Rattle.std.specs.Prelude.{ℕ, ◌+◌, ◌*◌, ◌≤◌, ◌<◌, �
 ghost use Rattle.basics.specs.Answers.{fault_in};
 ghost use Rattle.basics.specs.Refusals.{refuse, fault};
 ghost use Rattle.floats.specs.Rounded.{zero_f};
-ghost use Rattle.geometry.specs.Position.{coords as axes, position_of, dimension};
+ghost use Rattle.geometry.specs.Position.{coords as axes, position_of};
 ghost use Rattle.geometry.specs.Cells.{zetas, inside};
 ghost use Rattle.mesh.specs.Mesh.{seen, cell_count, point_count, mesh_too_long, broken_mesh, point_at, corners_of, corner_points, box_of, boxed, joined_box, longest_side};
 ghost use Rattle.mesh.specs.Cell.{cell_zeta};
@@ -14,7 +14,8 @@ ghost use Rattle.mesh.specs.Cell.{cell_zeta};
 use basics::Refusal;
 use geometry::{Dimension, Position, Zeta};
 
-// A mesh in two lent lists, and its dimension. Each list has a lifetime of its own.
+// A mesh in two lent lists, and its dimension as it came. The lists are read by a `Dimension`, that of the mesh or of an index,
+// once it is judged. Each list has a lifetime of its own.
 #[derive(Clone, Copy)]
 pub struct Mesh<'a, 'b> {
     pub ndim: usize,
@@ -25,9 +26,9 @@ pub struct Mesh<'a, 'b> {
 // A mesh of 2 or 3 dimensions whose lists hold whole points and whole cells, and whose corners name points.
 #[derive(Clone, Copy)]
 pub struct WholeMesh<'a, 'b> {
+    pub ndim: Dimension,
     pub mesh: Mesh<'a, 'b>,
-    pub ghost axes: { dimension mesh.ndim ≡ true },
-    pub ghost whole: { broken_mesh mesh.ndim (seen mesh) ≡ false },
+    pub ghost whole: { broken_mesh ndim.n (seen mesh) ≡ false },
 }
 
 // The least and the greatest coordinate of a cell's corners on each axis.
@@ -51,78 +52,72 @@ impl<'a, 'b> Mesh<'a, 'b> {
 
     // How many whole points the coordinates hold.
     #[tactic(auto, unfolding(crate::specs::Mesh::point_count))]
-    pub fn point_count(self) -> usize
-        requires { dimension self.ndim ≡ true }
-        ensures { result ≡ point_count self.entry.ndim (seen self.entry) }
+    pub fn point_count(self, ndim: Dimension) -> usize
+        ensures { result ≡ point_count ndim.n (seen self.entry) }
     {
-        self.coords.len() / self.ndim
+        self.coords.len() / ndim.n
     }
 
     // How many whole cells the corners hold.
     #[tactic(auto, unfolding(crate::specs::Mesh::cell_count))]
-    pub fn cell_count(self) -> usize
-        requires { dimension self.ndim ≡ true }
-        ensures { result ≡ cell_count self.entry.ndim (seen self.entry) }
+    pub fn cell_count(self, ndim: Dimension) -> usize
+        ensures { result ≡ cell_count ndim.n (seen self.entry) }
     {
-        self.corners.len() / (self.ndim + 1)
+        self.corners.len() / (ndim.n + 1)
     }
 
     // Whether the flat lists hold more than 65,536 whole points or cells.
     #[tactic(auto, unfolding(crate::specs::Mesh::mesh_too_long, crate::specs::Mesh::point_count, crate::specs::Mesh::cell_count))]
-    pub fn is_too_long(self) -> bool
-        requires { dimension self.ndim ≡ true }
-        ensures { result ≡ mesh_too_long self.entry.ndim (seen self.entry) }
+    pub fn is_too_long(self, ndim: Dimension) -> bool
+        ensures { result ≡ mesh_too_long ndim.n (seen self.entry) }
     {
-        (self.point_count() > 65536) | (self.cell_count() > 65536)
+        (self.point_count(ndim) > 65536) | (self.cell_count(ndim) > 65536)
     }
 
     // Whether the flat lists hold no whole number of points or cells, or a corner names no point.
     #[tactic(auto, unfolding(crate::specs::Mesh::broken_mesh))]
-    pub fn is_broken(self) -> bool
-        requires { dimension self.ndim ≡ true }
-        ensures { result ≡ broken_mesh self.entry.ndim (seen self.entry) }
+    pub fn is_broken(self, ndim: Dimension) -> bool
+        ensures { result ≡ broken_mesh ndim.n (seen self.entry) }
     {
-        if self.coords.len() % self.ndim != 0 {
+        if self.coords.len() % ndim.n != 0 {
             return true;
         }
-        if self.corners.len() % (self.ndim + 1) != 0 {
+        if self.corners.len() % (ndim.n + 1) != 0 {
             return true;
         }
-        let count = self.point_count();
+        let count = self.point_count(ndim);
         !self.corners.iter().all(|p| (*p as usize) < count)
     }
 
     // The same mesh, known to be whole, or the refusal 19.
     #[tactic(auto, unfolding(basics::specs::Refusals::fault))]
-    pub fn whole(self) -> Result<WholeMesh<'a, 'b>, Refusal>
-        requires { dimension self.ndim ≡ true }
-        ensures judged { fault_in result ≡ fault (refuse 19 (broken_mesh self.entry.ndim (seen self.entry)) ∷ []) }
-        ensures same { IfOk result (λ w. w.mesh ≡ self.entry) }
+    pub fn whole(self, ndim: Dimension) -> Result<WholeMesh<'a, 'b>, Refusal>
+        ensures judged { fault_in result ≡ fault (refuse 19 (broken_mesh ndim.n (seen self.entry)) ∷ []) }
+        ensures same { IfOk result (λ w. (w.ndim.n ≡ ndim.n) × (w.mesh ≡ self.entry)) }
     {
-        if self.is_broken() {
+        if self.is_broken(ndim) {
             return Err(Refusal::BrokenMesh);
         }
-        Ok(WholeMesh { mesh: self })
+        Ok(WholeMesh { ndim, mesh: self })
     }
 
     // The position of a point.
-    pub fn point(self, p: usize) -> Position
-        requires axes { dimension self.ndim ≡ true }
-        requires in_list { p * self.ndim + self.ndim ≤ length self.coords.now }
-        ensures { result ≡ position_of (point_at self.entry.ndim (seen self.entry) p) }
+    pub fn point(self, ndim: Dimension, p: usize) -> Position
+        requires { p * ndim.n + ndim.n ≤ length self.coords.now }
+        ensures { result ≡ position_of (point_at ndim.n (seen self.entry) p) }
     {
-        let at = p * self.ndim;
-        Position::new(&self.coords[at..at + self.ndim])
+        let at = p * ndim.n;
+        Position::new(&self.coords[at..at + ndim.n])
     }
 
     // The number of the point at corner k of a cell.
-    pub fn corner_point(self, cell: usize, k: usize) -> usize
-        requires axes { dimension self.ndim ≡ true }
-        requires cell { cell < cell_count self.ndim (seen self) }
-        requires corner { k ≤ self.ndim }
-        ensures { result ≡ get_or (corners_of self.entry.ndim (seen self.entry) cell) k 0 }
+    #[tactic(auto, using(crate::proofs::Whole::part_in, crate::proofs::Whole::corner_names), unfolding(crate::specs::Mesh::cell_count))]
+    pub fn corner_point(self, ndim: Dimension, cell: usize, k: usize) -> usize
+        requires cell { cell < cell_count ndim.n (seen self) }
+        requires corner { k ≤ ndim.n }
+        ensures { result ≡ get_or (corners_of ndim.n (seen self.entry) cell) k 0 }
     {
-        self.corners[cell * (self.ndim + 1) + k] as usize
+        self.corners[cell * (ndim.n + 1) + k] as usize
     }
 }
 
@@ -176,27 +171,30 @@ impl BoundingBox {
 impl<'a, 'b> WholeMesh<'a, 'b> {
     // How many cells it has.
     pub fn cell_count(self) -> usize
-        ensures { result ≡ cell_count self.entry.mesh.ndim (seen self.entry.mesh) }
+        ensures { result ≡ cell_count self.entry.ndim.n (seen self.entry.mesh) }
     {
-        self.mesh.cell_count()
+        self.mesh.cell_count(self.ndim)
     }
 
     // The position of corner k of a cell.
+    // Kept: a struct of a mesh and a cell's number could hold this clause; each caller would make it first, under that clause.
     fn corner(self, cell: usize, k: usize) -> Position
-        requires cell { cell < cell_count self.mesh.ndim (seen self.mesh) }
-        requires corner { k ≤ self.mesh.ndim }
-        ensures { axes self.entry.mesh.ndim result ≡ get_or (corner_points self.entry.mesh.ndim (seen self.entry.mesh) cell) k [] }
+        requires cell { cell < cell_count self.ndim.n (seen self.mesh) }
+        requires corner { k ≤ self.ndim.n }
+        ensures { axes self.entry.ndim.n result ≡ get_or (corner_points self.entry.ndim.n (seen self.entry.mesh) cell) k [] }
     {
-        self.mesh.point(self.mesh.corner_point(cell, k))
+        self.mesh
+            .point(self.ndim, self.mesh.corner_point(self.ndim, cell, k))
     }
 
     // The bounding box of a cell.
+    // Kept: a struct of a mesh and a cell's number could hold this clause; each caller would make it first, under that clause.
     pub fn bounding_box(self, cell: usize) -> BoundingBox
-        requires { cell < cell_count self.mesh.ndim (seen self.mesh) }
-        ensures { boxed self.entry.mesh.ndim result ≡ box_of self.entry.mesh.ndim (seen self.entry.mesh) cell }
+        requires { cell < cell_count self.ndim.n (seen self.mesh) }
+        ensures { boxed self.entry.ndim.n result ≡ box_of self.entry.ndim.n (seen self.entry.mesh) cell }
     {
         let mut all = BoundingBox::around(self.corner(cell, 0));
-        for k in 1..self.mesh.ndim + 1 {
+        for k in 1..self.ndim.n + 1 {
             let x = self.corner(cell, k);
             all = all.joined(BoundingBox::around(x));
         }
@@ -204,14 +202,15 @@ impl<'a, 'b> WholeMesh<'a, 'b> {
     }
 
     // The coordinates of a position in a cell: three in a triangle, four in a tetrahedron.
+    // Kept: a struct of a mesh and a cell's number could hold this clause; each caller would make it first, under that clause.
     pub fn cell_coords(self, cell: usize, x: Position) -> Zeta
-        requires { cell < cell_count self.mesh.ndim (seen self.mesh) }
-        ensures { result ≡ cell_zeta self.entry.mesh.ndim (corner_points self.entry.mesh.ndim (seen self.entry.mesh) cell) (axes self.entry.mesh.ndim x) }
+        requires { cell < cell_count self.ndim.n (seen self.mesh) }
+        ensures { result ≡ cell_zeta self.entry.ndim.n (corner_points self.entry.ndim.n (seen self.entry.mesh) cell) (axes self.entry.ndim.n x) }
     {
         let xa = self.corner(cell, 0);
         let xb = self.corner(cell, 1);
         let xc = self.corner(cell, 2);
-        if self.mesh.ndim == 2 {
+        if self.ndim.n == 2 {
             return geometry::triangle_coords(xa, xb, xc, x);
         }
         let xd = self.corner(cell, 3);

@@ -4,57 +4,43 @@
 
 ghost use Rattle.std.specs.Prelude.{◌≡◌};
 ghost use Rattle.mesh.specs.Mesh.{mesh_of, seen};
-ghost use Rattle.grid_cells.specs.Build.{settings_of, index_lists, build, leaves_lists};
+ghost use Rattle.grid_cells.specs.Build.{settings_of, index_lists, build, leaves as leaves_index, leaves_lists};
+ghost use Rattle.grid_cells.specs.Lent.{lent, lent_mut, SameLists};
 ghost use Rattle.cell_search.specs.Search.{cell_search, leaves};
 
 use basics::Refusal;
-use grid_cells::{CellId, GridCells, IndexLists};
+use grid_cells::{CellId, GridCells, IndexLists, IndexListsMut, OptionalSettings};
 pub use mesh::Mesh;
 
-// `GridCells::new` on a view's lists.
+// `GridCells::new` of a view.
 pub fn grid_cells(
     mesh: Mesh,
-    tolerance: Option<f64>,
-    border_tol: Option<f64>,
-    large_cutoff: Option<f64>,
-    large_pct: Option<f64>,
-    keys: &mut [u64],
-    cells: &mut [u64],
-    large: &mut [u64],
+    given: OptionalSettings,
+    lists: &mut IndexListsMut,
 ) -> Result<GridCells, Refusal>
-    ensures { leaves_lists result keys.new cells.new large.new
-        ≡ build mesh.entry.ndim (seen mesh.entry) (settings_of tolerance border_tol large_cutoff large_pct) (index_lists keys.old cells.old large.old) }
+    ensures builds { leaves_index result (lent_mut lists.new)
+        ≡ build mesh.entry.ndim (seen mesh.entry)
+        (settings_of given.tolerance given.border_tol given.large_cutoff given.large_pct) (lent_mut lists.old) }
+    ensures same_lists { SameLists lists.old lists.new }
 {
-    GridCells::new(
-        mesh.ndim,
-        mesh.coords,
-        mesh.corners,
-        tolerance,
-        border_tol,
-        large_cutoff,
-        large_pct,
-        keys,
-        cells,
-        large,
-    )
+    GridCells::build(mesh, given.in_force(), lists)
 }
 
-// `cell_search::search` on a view's lists. The dimension is the index's; the view's is not read.
+// `cell_search::search` of a view. The dimension is the index's; the view's is not read.
 pub fn search_in(
     mesh: Mesh,
     grid: GridCells,
-    keys: &[u64],
-    cells: &[u64],
-    large: &[u64],
+    lists: IndexLists,
     x: &[f64],
     zeta: &mut [f64],
 ) -> Result<Option<CellId>, Refusal>
-    ensures { leaves result zeta.new ≡ cell_search grid (seen mesh.entry) (index_lists keys.now cells.now large.now) zeta.old x.now }
+    ensures { leaves result zeta.new ≡ cell_search grid (seen mesh.entry) (lent lists.entry) zeta.old x.now }
 {
-    cell_search::search_mesh(mesh, grid, IndexLists { keys, cells, large }, x, zeta)
+    cell_search::search_mesh(mesh, grid, lists, x, zeta)
 }
 
 // The index of a mesh, built through its view: `GridCells::new` for callers that have no view.
+// Kept: what it takes is gemlab's and C's, plain slices and settings one by one; `grid_cells` is over the structs.
 pub fn build(
     ndim: usize,
     coords: &[f64],
@@ -70,20 +56,18 @@ pub fn build(
     ensures { leaves_lists result keys.new cells.new large.new
         ≡ build ndim (mesh_of coords.now corners.now) (settings_of tolerance border_tol large_cutoff large_pct) (index_lists keys.old cells.old large.old) }
 {
-    let mesh = Mesh::new(ndim, coords, corners);
-    grid_cells(
-        mesh,
+    let given = OptionalSettings {
         tolerance,
         border_tol,
         large_cutoff,
         large_pct,
-        keys,
-        cells,
-        large,
-    )
+    };
+    let mut lists = IndexListsMut { keys, cells, large };
+    grid_cells(Mesh::new(ndim, coords, corners), given, &mut lists)
 }
 
 // The cell at a position, found through the mesh's view: `cell_search::search` for callers that have no view.
+// Kept: what it takes is gemlab's and C's, plain slices one by one; `search_in` is over the structs.
 pub fn search(
     grid: GridCells,
     coords: &[f64],
@@ -97,5 +81,5 @@ pub fn search(
     ensures { leaves result zeta.new ≡ cell_search grid (mesh_of coords.now corners.now) (index_lists keys.now cells.now large.now) zeta.old x.now }
 {
     let mesh = Mesh::new(grid.ndim, coords, corners);
-    search_in(mesh, grid, keys, cells, large, x, zeta)
+    search_in(mesh, grid, IndexLists { keys, cells, large }, x, zeta)
 }

@@ -17,4 +17,8 @@ pub returns : goal.returns
 returns c =
     let l = c.args.large.now in
     let end : c.loop-i.i ≡ c.in-Some.last = omega (arith, c.in-Some.ensures) in
-    sym (rw end at c.loop-i.invariant ∙ linked_end (λ (k : ℕ). ltb k c.args.ncell) ltb (length l) (λ (i : ℕ). get_or l i 0) c.in-Some.last c.loop-i.ok (omega (arith, c.in-Some.ensures)) (omega (arith, c.in-Some.ensures)))
+    sym (
+    rw end at c.loop-i.invariant
+    ∙ linked_end (λ (k : ℕ). ltb k c.args.ncell) ltb (length l) (λ (i : ℕ). get_or l i 0) c.in-Some.last c.loop-i.ok
+    (omega (arith, c.in-Some.ensures)) (omega (arith, c.in-Some.ensures))
+    )

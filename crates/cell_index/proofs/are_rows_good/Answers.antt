@@ -26,4 +26,8 @@ returns c =
     let a = c.args in
     let n = length a.keys.now in
     let end : c.loop-i.i ≡ c.in-Some.last = omega (arith, c.in-Some.ensures) in
-    sym (rw end at c.loop-i.invariant ∙ linked_end (good_slot a.count a.ncell) before n (slot_at a.keys.now a.cells.now) c.in-Some.last c.loop-i.ok (omega (arith, c.in-Some.ensures)) (omega (arith, c.in-Some.ensures)))
+    sym (
+    rw end at c.loop-i.invariant
+    ∙ linked_end (good_slot a.count a.ncell) before n (slot_at a.keys.now a.cells.now) c.in-Some.last c.loop-i.ok
+    (omega (arith, c.in-Some.ensures)) (omega (arith, c.in-Some.ensures))
+    )

@@ -5,4 +5,4 @@ use Rattle.cell_rows.proofs.Tallies.{Marking}
 use Rattle.cell_rows.proofs.list_large.Given as goal
 
 abbrev pub invariant-loop-cell : goal.invariant-loop-cell
-invariant-loop-cell l = Marking l.mesh.mesh.ndim (seen l.mesh.mesh) (is_large l.apart.limit) l.cell l.n l.initial.large l.large
+invariant-loop-cell l = Marking l.mesh.ndim.n (seen l.mesh.mesh) (is_large l.apart.limit) l.cell l.n l.initial.large l.large

@@ -4,7 +4,7 @@ use Rattle.cell_search.proofs.Walk.{AxesPassed, Seeking}
 use Rattle.cell_search.proofs.find_cell.Given as goal
 
 abbrev pub invariant-loop-i : goal.invariant-loop-i
-invariant-loop-i l = AxesPassed l.mesh.mesh.ndim l.b l.x l.i
+invariant-loop-i l = AxesPassed l.mesh.ndim.n l.b l.x l.i
 
 abbrev pub invariant-outer : goal.invariant-outer
-invariant-outer l = Seeking l.mesh.mesh.ndim (seen l.mesh.mesh) l.x l.cells l.initial.zeta l.cell_id-index l.zeta
+invariant-outer l = Seeking l.mesh.ndim.n (seen l.mesh.mesh) l.x l.cells l.cell_id-index

@@ -21,16 +21,13 @@ returns-then-not-all_coordinates c =
     let wrong = rw (c.all_coordinates.ensures, c.all_coordinates-2.ensures) at (c.if-not-all_coordinates.true) in
     rw (eq-eqb _ _ c.if-nzeta-ne4.false, eq-eqb _ _ c.if-x-grid.false, wrong)
 
-pub invariant_of-is_outside : goal.invariant_of-is_outside
-invariant_of-is_outside c = record { two_or_three = (usable_index c.args.index).keyed.axes }
-
 pub returns-then-is_outside : goal.returns-then-is_outside
 unfolding asked_tests fault answer
 returns-then-is_outside c =
     let g = c.args.index.grid in
     let right = rw (c.all_coordinates.ensures, c.all_coordinates-2.ensures) at (c.if-not-all_coordinates.false) in
     let position = coords_of g.ndim c.args.x.now c.new-at.result (usable_index c.args.index).keyed.axes c.if-x-grid.false c.new-at.ensures in
-    let beyond = rw position at c.is_outside.ensures in
+    let beyond = rw (c.args.index.axes, position) at c.is_outside.ensures in
     rw (eq-eqb _ _ c.if-nzeta-ne4.false, eq-eqb _ _ c.if-x-grid.false, right, sym beyond ∙ c.if-is_outside.true)
 
 pub container-requires : goal.container-requires
@@ -42,6 +39,6 @@ returns c =
     let g = c.args.index.grid in
     let right = rw (c.all_coordinates.ensures, c.all_coordinates-2.ensures) at (c.if-not-all_coordinates.false) in
     let position = coords_of g.ndim c.args.x.now c.new-at.result (usable_index c.args.index).keyed.axes c.if-x-grid.false c.new-at.ensures in
-    let beyond = rw position at c.is_outside.ensures in
+    let beyond = rw (c.args.index.axes, position) at c.is_outside.ensures in
     let located = rw (c.containers.ensures, position) at c.container.ensures in
     rw (c.ok_or.ensures.value, located, eq-eqb _ _ c.if-nzeta-ne4.false, eq-eqb _ _ c.if-x-grid.false, right, sym beyond ∙ c.if-is_outside.false) (last_asked (containers_of g) c.args.x.now)

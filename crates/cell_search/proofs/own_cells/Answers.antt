@@ -25,10 +25,16 @@ offset_bounds-index-from c =
     omega (arith, rows.in_ids, to, c.first_of-from.ensures, c.first_of-to.ensures, lead-le c.args.key.0 (c.args.key.0 + 1) (take i.grid.used i.lists.keys.now) (omega arith))
 
 pub slice_bounds-result-count : goal.slice_bounds-result-count
-slice_bounds-result-count c = omega (arith, c.first_of-from.ensures, c.first_of-to.ensures, lead-le c.args.key.0 (c.args.key.0 + 1) (take c.args.index.grid.used c.args.index.lists.keys.now) (omega arith))
+slice_bounds-result-count c =
+    let i = c.args.index in
+    let ends = lead-le c.args.key.0 (c.args.key.0 + 1) (take i.grid.used i.lists.keys.now) (omega arith) in
+    omega (arith, c.first_of-from.ensures, c.first_of-to.ensures, ends)
 
 pub slice_bounds-result-start : goal.slice_bounds-result-start
-slice_bounds-result-start c = omega (arith, c.first_of-from.ensures, c.first_of-to.ensures, lead-le c.args.key.0 (c.args.key.0 + 1) (take c.args.index.grid.used c.args.index.lists.keys.now) (omega arith))
+slice_bounds-result-start c =
+    let i = c.args.index in
+    let ends = lead-le c.args.key.0 (c.args.key.0 + 1) (take i.grid.used i.lists.keys.now) (omega arith) in
+    omega (arith, c.first_of-from.ensures, c.first_of-to.ensures, ends)
 
 pub slice_bounds-result-end : goal.slice_bounds-result-end
 slice_bounds-result-end c =

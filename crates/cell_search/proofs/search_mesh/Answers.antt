@@ -6,7 +6,7 @@ use Rattle.basics.specs.Refusals.{Answer}
 use Rattle.basics.proofs.Answers.{raised_answer}
 use Rattle.mesh.specs.Mesh.{Mesh, seen}
 use Rattle.grid_cells.specs.Lent.{lent}
-use Rattle.cell_search.proofs.Answers.{refuse-index, refuse-asked, pass-zeta, pass-key, answered}
+use Rattle.cell_search.proofs.Answers.{refuse-index, refuse-asked, pass-zeta, pass-key, answered_none, answered-some}
 use Rattle.cell_search.proofs.search_mesh.Goals as goal
 
 pub returns-in_err-index : goal.returns-in_err-index
@@ -21,14 +21,21 @@ returns-in_err-key c =
     ap (λ (a : Answer (Option ℕ)). record { answer = a; zeta = c.args.zeta.now }) (raised_answer _ c.in_err-key.field-0.0 c.from_residual-in_err-key.result c.from_residual-in_err-key.ensures)
     ∙ refuse-asked c.args.grid (seen c.args.mesh) (lent c.args.lists) c.args.zeta.now c.args.x.now (sym index.judged) key
 
-pub find-requires-clause-key : goal.find-requires-clause-key
-find-requires-clause-key c =
+pub find-requires : goal.find-requires
+find-requires c =
     let index = c.in_ok-index.ensures in
     let key = rw (index.grid, ap (λ (m : Mesh). m.points) index.mesh) at c.in_ok-key.ensures in
     pass-key c.args.grid (seen c.args.mesh) (lent c.args.lists) c.args.zeta.now c.args.x.now (sym index.judged) key c.new-2.ensures
 
-pub find-requires-clause-room : goal.find-requires-clause-room
-find-requires-clause-room c =
+pub returns-in_default : goal.returns-in_default
+returns-in_default c =
+    let index = c.in_ok-index.ensures in
+    let key = rw (index.grid, ap (λ (m : Mesh). m.points) index.mesh) at c.in_ok-key.ensures in
+    let none = rw (index.grid, index.mesh, index.lists) at (sym c.in_default.is ∙ c.find.ensures) in
+    answered_none c.args.grid (seen c.args.mesh) (lent c.args.lists) c.args.zeta.now c.args.x.now (sym index.judged) key c.new-2.ensures none
+
+pub write_zeta-requires : goal.write_zeta-requires
+write_zeta-requires c =
     let index = c.in_ok-index.ensures in
     let key = rw (index.grid, ap (λ (m : Mesh). m.points) index.mesh) at c.in_ok-key.ensures in
     pass-zeta c.args.grid (seen c.args.mesh) (lent c.args.lists) c.args.zeta.now c.args.x.now (sym index.judged) key
@@ -37,5 +44,6 @@ pub returns : goal.returns
 returns c =
     let index = c.in_ok-index.ensures in
     let key = rw (index.grid, ap (λ (m : Mesh). m.points) index.mesh) at c.in_ok-key.ensures in
-    let found = rw (index.grid, index.mesh, index.lists) at c.find.ensures in
-    answered c.args.grid (seen c.args.mesh) (lent c.args.lists) c.args.zeta.now c.args.x.now (sym index.judged) key c.new-2.ensures c.find.result found
+    let found = rw (index.grid, index.mesh, index.lists) at (sym c.in-Some.is ∙ c.find.ensures) in
+    let written = rw (c.in_ok-index.index.axes, index.grid) at c.write_zeta.ensures in
+    answered-some c.args.grid (seen c.args.mesh) (lent c.args.lists) c.args.zeta.now c.args.x.now (sym index.judged) key c.new-2.ensures found written

@@ -4,4 +4,4 @@ use Rattle.cell_sizes.proofs.Measures.{Seen}
 use Rattle.cell_sizes.proofs.count_large.Given as goal
 
 abbrev pub invariant-loop-cell : goal.invariant-loop-cell
-invariant-loop-cell l = Seen l.mesh.mesh.ndim (seen l.mesh.mesh) l.limit l.cell l.found
+invariant-loop-cell l = Seen l.mesh.ndim.n (seen l.mesh.mesh) l.limit l.cell l.found

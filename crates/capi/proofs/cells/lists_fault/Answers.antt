@@ -10,14 +10,14 @@ pub returns-in_err-sizes_fault : goal.returns-in_err-sizes_fault
 returns-in_err-sizes_fault c =
     let a = c.args in
     raised_fault c.in_err-sizes_fault.field-0.0 c.from_residual.result c.from_residual.ensures
-    ∙ lists_sizes a.mesh.ndim (seen a.mesh) (lent a.lists) a.numbers.now a.floats.now c.in_err-sizes_fault.ensures
+    ∙ lists_sizes a.mesh.ndim (seen a.mesh) (lent a.lists) a.numbers.now a.floats.now c.in_err-sizes_fault.ensures.judged
 
 pub returns-then-not-have_lengths : goal.returns-then-not-have_lengths
 returns-then-not-have_lengths c =
     let a = c.args in
-    lists_13 a.mesh.ndim (seen a.mesh) (lent a.lists) a.numbers.now a.floats.now (sym c.in_ok-sizes_fault.ensures) (sym c.have_lengths.ensures ∙ c.if-not-have_lengths.true)
+    lists_13 a.mesh.ndim (seen a.mesh) (lent a.lists) a.numbers.now a.floats.now (sym c.in_ok-sizes_fault.ensures.judged) (sym c.have_lengths.ensures ∙ c.if-not-have_lengths.true)
 
 pub returns : goal.returns
 returns c =
     let a = c.args in
-    lists-none a.mesh.ndim (seen a.mesh) (lent a.lists) a.numbers.now a.floats.now (sym c.in_ok-sizes_fault.ensures) (sym c.have_lengths.ensures ∙ c.if-not-have_lengths.false)
+    lists-none a.mesh.ndim (seen a.mesh) (lent a.lists) a.numbers.now a.floats.now (sym c.in_ok-sizes_fault.ensures.judged) (sym c.have_lengths.ensures ∙ c.if-not-have_lengths.false)

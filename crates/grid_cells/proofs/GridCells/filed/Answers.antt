@@ -28,7 +28,7 @@ returns-in_err-used-clause-files c =
     let none = none_by c.count_rows.result refusal.Ratio c.in_err-used.field-0.0 c.in_err-used.ensures.value in
     let far = sym none.0 ∙ rw c.containers.ensures at c.count_rows.ensures in
     ap (λ (x : Answer GridCells). record { answer = x; lists = l }) (raised_answer _ c.in_err-used.field-0.0 c.from_residual.result c.from_residual.ensures)
-    ∙ rw none.1 (finish_far g (kept a) (limit_in a) (boxes g.ndim m) l (few g c.args.sizes c.args.mesh.mesh.ndim m l c.requires) far)
+    ∙ rw none.1 (finish_far g (kept a) (limit_in a) (boxes g.ndim m) l (few g c.args.sizes c.args.mesh.ndim.n m l c.requires) far)
 
 pub returns-then-used-lists-clause-files : goal.returns-then-used-lists-clause-files
 returns-then-used-lists-clause-files c =
@@ -37,7 +37,7 @@ returns-then-used-lists-clause-files c =
     let m = seen c.args.mesh.mesh in
     let l = lent_mut c.args.lists.now in
     let counted = sym (some_by c.count_rows.result refusal.Ratio c.in_ok-used.used c.in_ok-used.ensures.value) ∙ rw c.containers.ensures at c.count_rows.ensures in
-    finish-full g (kept a) (limit_in a) (boxes g.ndim m) l (few g c.args.sizes c.args.mesh.mesh.ndim m l c.requires) counted c.requires.large c.if-used-lists.true
+    finish-full g (kept a) (limit_in a) (boxes g.ndim m) l (few g c.args.sizes c.args.mesh.ndim.n m l c.requires) counted c.requires.large c.if-used-lists.true
 
 pub file_cells-requires-clause-fitting : goal.file_cells-requires-clause-fitting
 file_cells-requires-clause-fitting c =
@@ -46,7 +46,7 @@ file_cells-requires-clause-fitting c =
     let m = seen c.args.mesh.mesh in
     let l = lent_mut c.args.lists.now in
     let counted = sym (some_by c.count_rows.result refusal.Ratio c.in_ok-used.used c.in_ok-used.ensures.value) ∙ rw c.containers.ensures at c.count_rows.ensures in
-    rw c.containers.ensures (finish-fits g (kept a) (limit_in a) (boxes g.ndim m) l (few g c.args.sizes c.args.mesh.mesh.ndim m l c.requires) counted c.requires.large c.if-used-lists.false)
+    rw c.containers.ensures (finish-fits g (kept a) (limit_in a) (boxes g.ndim m) l (few g c.args.sizes c.args.mesh.ndim.n m l c.requires) counted c.requires.large c.if-used-lists.false)
 
 pub returns-clause-files : goal.returns-clause-files
 returns-clause-files c =
@@ -57,4 +57,4 @@ returns-clause-files c =
     let counted = sym (some_by c.count_rows.result refusal.Ratio c.in_ok-used.used c.in_ok-used.ensures.value) ∙ rw c.containers.ensures at c.count_rows.ensures in
     let filed = rw c.containers.ensures at c.file_cells.ensures in
     let large = rw c.requires.axes at c.write_large.ensures in
-    finish-made g (kept a) (limit_in a) (boxes g.ndim m) l (few g c.args.sizes c.args.mesh.mesh.ndim m l c.requires) counted c.requires.large c.if-used-lists.false filed large
+    finish-made g (kept a) (limit_in a) (boxes g.ndim m) l (few g c.args.sizes c.args.mesh.ndim.n m l c.requires) counted c.requires.large c.if-used-lists.false filed large

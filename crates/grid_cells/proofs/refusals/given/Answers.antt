@@ -11,4 +11,4 @@ pub returns-in_err-whole-clause-judged : goal.returns-in_err-whole-clause-judged
 unfolding fault given_tests
 returns-in_err-whole-clause-judged c =
     raised_fault c.in_err-whole.field-0.0 c.from_residual.result c.from_residual.ensures
-    ∙ rw (eq-eqb _ _ c.if-lists.false) (first_fails (broken_mesh c.args.mesh.ndim (seen c.args.mesh)) 19 _ c.in_err-whole.ensures.judged)
+    ∙ rw (eq-eqb _ _ c.if-lists.false) (first_fails (broken_mesh c.args.ndim.n (seen c.args.mesh)) 19 _ c.in_err-whole.ensures.judged)

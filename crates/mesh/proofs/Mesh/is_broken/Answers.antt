@@ -12,4 +12,4 @@ returns c =
     let corners = c.args.self.corners.now in
     let below = λ (p : ℕ). ltb p c.point_count-count.result in
     let each = all_from_yields_List below _ _ c.all.result c.all.ensures.ran (YieldsList-from_slice corners cc) (λ x b q k. search (rules, tests)) in
-    rw (eq-eqb _ _ c.if-self-ne0.false, eq-eqb _ _ c.if-self-ne0-2.false, ← c.point_count-count.ensures) (ap not (each ∙ sym (all-list below corners)))
+    rw (eq-eqb _ _ c.if-self-ndim-ne0.false, eq-eqb _ _ c.if-self-ndim-ne0-2.false, ← c.point_count-count.ensures) (ap not (each ∙ sym (all-list below corners)))

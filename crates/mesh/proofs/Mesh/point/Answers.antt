@@ -9,6 +9,7 @@ use Rattle.mesh.proofs.Mesh.point.Goals as goal
 pub returns : goal.returns
 unfolding point_at
 returns c =
-    let m = c.args.self in
-    let at = c.args.p * m.ndim in
-    c.new.ensures ∙ ap position_of (ap (λ (k : ℕ). take k (drop at m.coords.now)) (add-sub_cancel_left at m.ndim) ∙ point_part m.ndim m.coords.now at c.requires.in_list)
+    let n = c.args.ndim.n in
+    let points = c.args.self.coords.now in
+    let at = c.args.p * n in
+    c.new.ensures ∙ ap position_of (ap (λ (k : ℕ). take k (drop at points)) (add-sub_cancel_left at n) ∙ point_part n points at c.requires)
