@@ -1,8 +1,7 @@
 -- The number, the coordinates and the line's end, one after another.
 -- Assumes nothing.
-use native.Mathlib.Omega.{arith}
 use Rattle.text.proofs.Laws.{puts_both}
-use Rattle.survey_export.proofs.Laws.{line_length, comma_length, line_fields}
+use Rattle.survey_export.proofs.Laws.{line_fields}
 use Rattle.survey_export.proofs.put_mark.Goals as goal
 
 pub returns : goal.returns
