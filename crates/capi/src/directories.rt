@@ -256,6 +256,7 @@ pub fn gemlab_directory_search(
 
 // Writes the ids of the marks on a place that the filter keeps, and their count, as `gemlab_grid_search_list` does, through the
 // directory. Returns 0, or the first of 24, 13, 29, 16, 2, 3, 15 and 14 that applies, and then writes nothing.
+// Kept: C has numbers for the places and filters (include/gemlab.h).
 pub fn gemlab_directory_list(
     numbers: &[u64],
     floats: &[f64],

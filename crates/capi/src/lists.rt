@@ -12,6 +12,7 @@ use listing::Filter;
 use table::Library;
 
 // The filter of a number: 0 for everything, 1 for a range. Any other is a range on an axis that no dimension has.
+// Kept: C has numbers for the filters (include/gemlab.h), and any number is answered.
 #[tactic(auto, unfolding(crate::specs::Lists::filter_of))]
 pub(crate) fn filter_of(filter: u64, axis: u64, low: f64, high: f64) -> Filter
     ensures { result ≡ filter_of filter axis low high }
@@ -29,6 +30,7 @@ pub(crate) fn filter_of(filter: u64, axis: u64, low: f64, high: f64) -> Filter
 
 // Writes the ids of the marks on a place that the filter keeps, ascending and once each, and their count. Returns 0, or the
 // first of 24, 13, 16, 2, 3, 15 and 14 that applies, and then writes nothing.
+// Kept: C has numbers for the places and filters (include/gemlab.h).
 pub fn gemlab_grid_search_list(
     numbers: &[u64],
     floats: &[f64],

@@ -114,6 +114,7 @@ pub fn gemlab_grid_search_new(
 }
 
 // Whether a setting's flag is 0 or 1, and with 0 its entry is empty.
+// Kept: C's lists have a flag for each setting (include/gemlab.h), and its entry is a number in one list or a float in the other.
 fn is_setting(flag: u64, empty: bool) -> bool
     ensures { result ≡ setting_read flag empty }
 {

@@ -161,6 +161,7 @@ pub extern "C" fn gemlab_directory_search(
     )
 }
 
+// Kept: C has numbers for the places and filters (include/gemlab.h).
 #[unsafe(no_mangle)]
 pub extern "C" fn gemlab_directory_list(
     numbers: &[u64],

@@ -5,6 +5,7 @@ ghost use Rattle.listing.specs.Listing.{listing};
 ghost use Rattle.capi.specs.Sheets.{sheet_of};
 ghost use Rattle.capi.specs.Lists.{filter_of, ToldList};
 
+// Kept: C has numbers for the places and filters (include/gemlab.h).
 #[unsafe(no_mangle)]
 pub extern "C" fn gemlab_grid_search_list(
     numbers: &[u64],

@@ -62,6 +62,7 @@ fn put_catalogue(
 }
 
 // What is printed of the two files: it stands at the front of the buffer.
+// Kept: as `Display` it could not be told what is printed, since std does not promise that a write answers no error.
 fn put_text(rt: &impl Files, text: &mut [u8; 70804]) -> usize
     ensures prefix_len { IsPrefixLen result text.new }
     ensures printed { Printed (take result text.new) }
@@ -70,6 +71,7 @@ fn put_text(rt: &impl Files, text: &mut [u8; 70804]) -> usize
     put_catalogue(rt, sheet, text)
 }
 
+// Kept: one `main` for both programs would take `put_text` as a closure, and ask of it that the text fits: longer than both are.
 fn main(rt: HostRuntime) {
     let mut text = [0u8; 70804];
     let n = put_text(&rt, &mut text);

@@ -11,10 +11,6 @@ use mathlib.Core.List.{List, [], ◌∷◌}
 use mathlib.Core.Logic.{◌⊎◌, inl, inr, ⊎_elim}
 use lib.Dec.{leb, ltb, eqb, lit≤}
 use lib.Pointwise.{pointwise}
-use lib.IntN.{ℤ, nat_abs}
-use mir.Syntax.{w64}
-use mir.Val.{to_z, of_z}
-use Rattle.millimetres.proofs.Signed.{size-signed, read_back}
 use Rattle.std.specs.List.{position}
 use Rattle.std.specs.Bool.{then_some}
 use Rattle.std.proofs.Common.{Some, None}
@@ -27,6 +23,7 @@ use Rattle.basics.proofs.Lists.{leading-most}
 use Rattle.text.specs.Text.{number_of, number_from}
 use Rattle.lines.specs.Pieces.{split}
 use Rattle.lines.proofs.Pieces.{leading_found, leading_unfound, split-some, split-first, split-none, split-whole}
+use Rattle.millimetres.specs.declared.Millimetres.{Millimetres}
 use Rattle.millimetres.specs.Millimetres.{limit, signed}
 use Rattle.decimals.specs.Decimals.{digits, has_minus, parts_of, thousandths, good_parts, is_coordinate, millimetres, millimetres_in, number_read}
 use Rattle.decimals.specs.Posts.{digits_in, decimals_in, thousandths_in, IsCut}
@@ -199,9 +196,8 @@ module _ {b : Bool} {field rest : List ℕ} (r : IsRest b field rest) where
     pub coordinate-within : n ≤ limit
     coordinate-within = let t = thousandths-told rest e in rw t.1 (good-are (split 46 rest) t.0).within
 
-    pub coordinate-good : (m : ℤ) → m ≡ signed b n → some (to_z w64 (of_z w64 m)) ≡ millimetres_in field
+    pub coordinate-good : (m : Millimetres) → m.count ≡ signed b n → some m.count ≡ millimetres_in field
     unfolding millimetres_in is_coordinate millimetres
     coordinate-good m f =
         let t = thousandths-told rest e in
-        let size : nat_abs m ≤ limit = rw (f, size-signed b n) coordinate-within in
-        rw (read_back m size, rest_parts, t.0, f, t.1, r.minus)
+        rw (rest_parts, t.0, f, t.1, r.minus)

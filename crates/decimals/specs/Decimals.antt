@@ -6,6 +6,7 @@ use Rattle.std.proofs.Math.Option.{Option, none, some}
 use Rattle.basics.specs.Lists.{all}
 use Rattle.text.specs.Text.{ascii, digit, decimal, number_of}
 use Rattle.lines.specs.Pieces.{split}
+use Rattle.millimetres.specs.declared.Millimetres.{Millimetres}
 use Rattle.millimetres.specs.Millimetres.{limit, signed}
 
 -- ---- digits
@@ -82,6 +83,6 @@ abbrev pub number_read : prelude.Option ℕ → Option ℕ
 number_read (prelude.Some n) = some n
 number_read prelude.None = none
 
-abbrev pub coordinate_read : prelude.Option ℤ → Option ℤ
-coordinate_read (prelude.Some m) = some m
+abbrev pub coordinate_read : prelude.Option Millimetres → Option ℤ
+coordinate_read (prelude.Some m) = some m.count
 coordinate_read prelude.None = none

@@ -1,13 +1,13 @@
 // Numbers and coordinates in the text of surveyors: read from a field of a line, and put into a lent buffer.
 #![tactic(auto)]
 
-ghost use Rattle.std.specs.Prelude.{◌≡◌, ◌==◌, ◌+◌, ◌^◌, ◌≤◌, ◌<◌, nat_abs, length, MatchOption, position};
+ghost use Rattle.std.specs.Prelude.{◌≡◌, ◌==◌, ◌+◌, ◌^◌, ◌<◌, length, MatchOption, position};
 ghost use Rattle.std.proofs.Math.Option.{none};
 ghost use Rattle.text.specs.Writers.{Puts};
-ghost use Rattle.millimetres.specs.Millimetres.{limit};
 ghost use Rattle.decimals.specs.Decimals.{number_in, number_read, millimetres_in, coordinate_read, magnitude_text, coordinate_text};
 ghost use Rattle.decimals.specs.Posts.{with_digit, digits_in, decimals_in, thousandths_in, IsCut};
 
+use millimetres::Millimetres;
 use text::Writer;
 
 // ---- numbers
@@ -84,17 +84,17 @@ fn read_thousandths(field: &[u8]) -> Option<u64>
 }
 
 // The millimetres that a coordinate is.
-pub fn read_coordinate(field: &[u8]) -> Option<i64>
+pub fn read_coordinate(field: &[u8]) -> Option<Millimetres>
     ensures { coordinate_read result ≡ millimetres_in field.now }
 {
     match field.strip_prefix(b"-") {
         Some(magnitude) => {
             let n = read_thousandths(magnitude)?;
-            Some(millimetres::signed_of(true, n))
+            Some(Millimetres::signed(true, n))
         }
         None => {
             let n = read_thousandths(field)?;
-            Some(millimetres::signed_of(false, n))
+            Some(Millimetres::signed(false, n))
         }
     }
 }
@@ -115,13 +115,12 @@ fn put_magnitude(writer: &mut Writer, n: u64)
 }
 
 // A coordinate, with no minus on zero.
-pub fn put_coordinate(writer: &mut Writer, millimetres: i64)
-    requires within { nat_abs millimetres ≤ limit }
-    requires room { writer.old.at + length (coordinate_text millimetres) < 2 ^ 64 }
-    ensures { Puts (coordinate_text millimetres) writer.old writer.new }
+pub fn put_coordinate(writer: &mut Writer, millimetres: Millimetres)
+    requires { writer.old.at + length (coordinate_text millimetres.count) < 2 ^ 64 }
+    ensures { Puts (coordinate_text millimetres.count) writer.old writer.new }
 {
-    if millimetres < 0 {
+    if millimetres.count < 0 {
         writer.put_byte(b'-');
     }
-    put_magnitude(writer, millimetres.unsigned_abs());
+    put_magnitude(writer, millimetres.count.unsigned_abs());
 }

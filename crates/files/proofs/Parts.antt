@@ -7,7 +7,6 @@ use mathlib.Core.Path.{◌≡◌, refl, sym, ap, ◌∙◌, subst}
 use mathlib.Core.Bool.{Bool, true, false, cond}
 use mathlib.Core.Option.{Option, none, some}
 use mathlib.Core.List.{List, [], ◌++◌}
-use lib.IntN.{ℤ}
 use Rattle.std.specs.Prelude.{Result, Ok, Err}
 use Rattle.basics.specs.Refusals.{refused, success}
 use Rattle.basics.specs.declared.Refusal.{Refusal}
@@ -20,6 +19,7 @@ use Rattle.loading.specs.Loading.{records_of, leftover, insert_bytes, Inserts}
 use Rattle.loading.proofs.Chunks.{in_parts, stored_whole, whole_append}
 use Rattle.loading.proofs.InOrder.{then-success}
 use Rattle.loading.proofs.Marks.{bytes-used}
+use Rattle.files.specs.declared.ReadError.{ReadError}
 use Rattle.files.specs.Files.{all_came, part_length, marks_answer}
 use Rattle.files.specs.Read.{MarksIn, MarksRead, MoreRead}
 
@@ -68,9 +68,10 @@ module _ (width : ℕ) (s : GridSearch) where
         go (some bytes) f = record { file = some (m.bytes ++ bytes); is = subst (λ (t : Turn ℕ). Inserts t (Err e) next) (after bytes) f }
 
   -- the end of the file, or none
-  pub ended : (l k : Library) → MoreRead width s l k → (opened next : ℤ) (r : Result ℕ Refusal) → inserted r ≡ marks_answer opened next k.used → MarksRead width s l r k
+  pub ended : (l k : Library) → MoreRead width s l k → (next : Result ℕ ReadError) (r : Result ℕ Refusal)
+      → inserted r ≡ marks_answer next k.used → MarksRead width s l r k
   unfolding marks_answer
-  ended l k m opened next r e = go (all_came opened next) e
+  ended l k m next r e = go (all_came next) e
     where
       go : (b : Bool) → inserted r ≡ cond b (success k.used) (refused 13) → MarksRead width s l r k
       go true f = record { file = some m.bytes; is = record { answers = f ∙ ap (λ (t : Turn ℕ). t.answer) (sym m.is); library-is = ap (λ (t : Turn ℕ). t.library) (sym m.is) } }

@@ -11,8 +11,7 @@ use Rattle.table.specs.Library.{Library}
 use Rattle.rows.specs.Insert.{inserted}
 use Rattle.loading.specs.Loading.{sheet_in, insert_bytes, Inserts}
 use Rattle.files.specs.Counts.{IsPrefixLen}
-use Rattle.files.specs.declared.Input.{Input}
-use Rattle.files.specs.declared.Input.TheVariants.{Whole}
+use Rattle.files.specs.declared.InputError.{InputError}
 use Rattle.files.specs.declared.Part.{Part}
 
 -- the sheet of a file
@@ -21,9 +20,9 @@ pub record SheetRead (r : Result GridSearch Refusal) : Type 0 where
   pub is : made r ≡ sheet_in file
 
 -- the bytes of standard input that came stand at the front of a buffer of 131,072: what lending them asks for
-pub record Came (r : Input) (bytes : List ℕ) : Type 0 where
+pub record Came (r : Result ℕ InputError) (bytes : List ℕ) : Type 0 where
   pub room : 131072 ≡ length bytes
-  pub front : (n : ℕ) → r ≡ Whole n → IsPrefixLen n bytes
+  pub front : (n : ℕ) → r ≡ Ok n → IsPrefixLen n bytes
 
 -- ---- marks
 

@@ -2,11 +2,10 @@
 // decision in a function of its own with an exact contract; and each is asked whatever the call before it answered: where a
 // file cannot be opened, reading it fails too, and that is handed over.
 //
-// `opened` is what opening a file answered, below 0 where it cannot be opened; `after` is what reading on after the bytes that
-// came answered: 0 at the end, the number of bytes where more follow, below 0 where it fails.
+// `after` is what reading on after the bytes that came answered: how many bytes follow, 0 at the end, or why that is not known.
 #![tactic(auto)]
 
-ghost use Rattle.std.specs.Prelude.{◌≤◌, ◌<◌, ◌≡◌, length, take, IfSome, MatchOption};
+ghost use Rattle.std.specs.Prelude.{◌≤◌, ◌<◌, ◌≡◌, length, take, is_ok, IfSome, MatchOption};
 ghost use Rattle.std.specs.Io.KnownBytes.{Consumes, Keeps};
 ghost use Rattle.grid_search.specs.Sheet.{made};
 ghost use Rattle.table.specs.Lent.{lent_mut, SameLists};
@@ -31,26 +30,37 @@ pub enum Part {
     Last,
 }
 
-// What standard input holds: this number of bytes; more than a program takes; or it cannot be read.
+// Why it is not known what follows: the file cannot be opened; or reading fails.
 #[derive(Clone, Copy)]
-pub enum Input {
-    Whole(usize),
+pub enum ReadError {
+    Missing,
+    Failed,
+}
+
+// Why standard input is not held: it has more bytes than a program takes; or it cannot be read.
+#[derive(Clone, Copy)]
+pub enum InputError {
     Longer,
     Unreadable,
 }
 
 // Whether the bytes that came are all of the file.
-fn all_came(opened: i32, after: isize) -> bool
-    ensures { result ≡ all_came opened after }
+#[tactic(auto, unfolding(crate::specs::Files::all_came, crate::specs::Files::is_end))]
+fn all_came(after: Result<usize, ReadError>) -> bool
+    ensures { result ≡ all_came after }
 {
-    (opened >= 0) & (after == 0)
+    matches!(after, Ok(0))
 }
 
 // The sheet of a file: 13 where the bytes are not all of it, and else what they say.
-pub fn sheet_of_file(opened: i32, bytes: &[u8], after: isize) -> Result<GridSearch, Refusal>
-    ensures { made result ≡ sheet_in (content opened bytes.now after) }
+#[tactic(auto, unfolding(crate::specs::Files::content, loading::specs::Loading::sheet_in))]
+pub fn sheet_of_file(
+    bytes: &[u8],
+    after: Result<usize, ReadError>,
+) -> Result<GridSearch, Refusal>
+    ensures { made result ≡ sheet_in (content bytes.now after) }
 {
-    if !all_came(opened, after) {
+    if !all_came(after) {
         return Err(Refusal::Damaged);
     }
     loading::sheet_of_records(bytes)
@@ -73,10 +83,11 @@ pub fn part_of(came: usize, asked: usize) -> Part
 }
 
 // The answer to a file whose marks were all taken and left this number of rows in use: 13 where they are not all of the file.
-pub fn marks_answer(opened: i32, after: isize, rows: usize) -> Result<usize, Refusal>
-    ensures { inserted result ≡ marks_answer opened after rows }
+#[tactic(auto, unfolding(crate::specs::Files::marks_answer))]
+pub fn marks_answer(after: Result<usize, ReadError>, rows: usize) -> Result<usize, Refusal>
+    ensures { inserted result ≡ marks_answer after rows }
 {
-    if !all_came(opened, after) {
+    if !all_came(after) {
         return Err(Refusal::Damaged);
     }
     Ok(rows)
@@ -84,24 +95,31 @@ pub fn marks_answer(opened: i32, after: isize, rows: usize) -> Result<usize, Ref
 
 // What standard input holds, where `came` bytes came of `asked` that were asked for. Where fewer came, reading failed or the input
 // ended: bytes that follow all the same say that it failed.
-pub fn input_of(came: usize, asked: usize, after: isize) -> Input
+#[tactic(auto, unfolding(crate::specs::Files::input_of))]
+pub fn input_of(
+    came: usize,
+    asked: usize,
+    after: Result<usize, ReadError>,
+) -> Result<usize, InputError>
     ensures { result ≡ input_of came asked after }
 {
-    if after == 0 {
-        return Input::Whole(came);
+    match after {
+        Ok(0) => Ok(came),
+        Ok(_) if came == asked => Err(InputError::Longer),
+        _ => Err(InputError::Unreadable),
     }
-    if (after >= 0) & (came == asked) {
-        return Input::Longer;
-    }
-    Input::Unreadable
 }
 
 // How many bytes of a complaint are said: all of them where a text was not written whole, and else none.
-pub fn said_of(written: bool, line: &[u8]) -> usize
-    ensures value { result ≡ said written line.now }
+#[tactic(auto, unfolding(crate::specs::Files::said))]
+pub fn said_of(written: io::Result<()>, line: &[u8]) -> usize
+    ensures value { result ≡ said (is_ok written) line.now }
     ensures upper_bound { (result ≤ length line.now) × (result ≡ length (take result line.now)) }
 {
-    if written { 0 } else { line.len() }
+    match written {
+        Ok(()) => 0,
+        Err(_) => line.len(),
+    }
 }
 
 // The file of this name: none where it cannot be opened. A name in `std` is UTF-8, so none has another name.
@@ -132,6 +150,7 @@ fn read_some<R: Read>(reader: &mut R, bytes: &mut [u8]) -> Option<usize>
 }
 
 // Reads until the buffer is full, the bytes end or reading fails: how many came.
+// Kept: `read_exact` does not tell how many bytes came where there are fewer, and `read_to_end` needs a Vec.
 fn read_full<R: Read>(reader: &mut R, bytes: &mut [u8]) -> usize
     ensures count { IsPrefixLen result bytes.new }
     ensures read { Consumes (R.remaining reader.old) (R.remaining reader.new) (take result bytes.new) }
@@ -147,12 +166,9 @@ fn read_full<R: Read>(reader: &mut R, bytes: &mut [u8]) -> usize
 }
 
 // What reading on answers.
-fn read_on<R: Read>(reader: &mut R) -> isize {
+fn read_on<R: Read>(reader: &mut R) -> Result<usize, ReadError> {
     let mut byte = [0u8; 1];
-    match read_some(reader, &mut byte) {
-        Some(n) => n as isize,
-        None => -1,
-    }
+    read_some(reader, &mut byte).ok_or(ReadError::Failed)
 }
 
 // The sheet of a file that was opened: two records.
@@ -162,7 +178,7 @@ fn sheet_of_reader<R: Read>(reader: &mut R) -> Result<GridSearch, Refusal>
     let mut bytes = [0u8; 64];
     let n = read_full(reader, &mut bytes);
     let after = read_on(reader);
-    sheet_of_file(0, &bytes[..n], after)
+    sheet_of_file(&bytes[..n], after)
 }
 
 // The sheet of the file of this name: two records.
@@ -171,11 +187,12 @@ pub fn read_sheet(rt: &impl Files, name: &[u8]) -> Result<GridSearch, Refusal>
 {
     match open(rt, name) {
         Some(mut file) => sheet_of_reader(&mut file),
-        None => sheet_of_file(-1, b"", -1),
+        None => sheet_of_file(b"", Err(ReadError::Missing)),
     }
 }
 
 // Inserts the marks of the next records of a file.
+// Kept: a struct of width, sheet and library would be made for one call, and the contracts name each of the three all the same.
 fn insert_part<R: Read>(
     reader: &mut R,
     width: usize,
@@ -194,6 +211,7 @@ fn insert_part<R: Read>(
 
 // Inserts the marks of an open file part by part, from a library with no row in use. A proved loop has to end, and nothing says that a
 // file does: so the loop has a number of turns that no file uses up.
+// Kept: a struct of width, sheet and library would be made for one call, and the contracts name each of the three all the same.
 fn insert_parts<R: Read>(
     reader: &mut R,
     width: usize,
@@ -208,7 +226,7 @@ fn insert_parts<R: Read>(
         let part = insert_part(reader, width, sheet, library)?;
         if part == Part::Last {
             let after = read_on(reader);
-            return marks_answer(0, after, library.used);
+            return marks_answer(after, library.used);
         }
     }
     Err(Refusal::Damaged)
@@ -216,6 +234,7 @@ fn insert_parts<R: Read>(
 
 // Inserts the marks of the file of this name, whose records have this width, into a library. 13 where no record of that width
 // fits into a part.
+// Kept: a struct of width, sheet and library would be made for one call, and the contracts name each of the three all the same.
 pub fn insert_file(
     rt: &impl Files,
     name: &[u8],
@@ -231,12 +250,12 @@ pub fn insert_file(
     }
     match open(rt, name) {
         Some(mut file) => insert_parts(&mut file, width, sheet, library),
-        None => marks_answer(-1, -1, library.used),
+        None => marks_answer(Err(ReadError::Missing), library.used),
     }
 }
 
 // Reads standard input into a buffer. Past what the buffer holds one byte is asked for, and no more.
-pub fn read_input(stdin: &impl io::Input, bytes: &mut [u8; 131072]) -> Input
+pub fn read_input(stdin: &impl io::Input, bytes: &mut [u8; 131072]) -> Result<usize, InputError>
     ensures { Came result bytes.new }
 {
     let mut reader = stdin.reader();
@@ -247,7 +266,6 @@ pub fn read_input(stdin: &impl io::Input, bytes: &mut [u8; 131072]) -> Input
 
 // Writes a text on standard output, and says on standard error where it could not be written whole.
 pub fn write_text(stdout: &impl Print, stderr: &impl Print, text: &[u8], complaint: &[u8]) {
-    let written = stdout.write_all(text).is_ok();
-    let n = said_of(written, complaint);
+    let n = said_of(stdout.write_all(text), complaint);
     let _ = stderr.write_all(&complaint[..n]);
 }

@@ -1,24 +1,35 @@
 -- The sheet of two records, by the tests of its bytes.
 -- Assumes nothing.
-use Prim.Native.Nat.{ℕ}
+use Prim.Native.Nat.{ℕ, ◌/◌}
 use native.Mathlib.Omega.{arith}
-use mathlib.Core.Path.{◌≡◌, sym}
+use mathlib.Core.Path.{◌≡◌, sym, ap, ◌∙◌}
 use mathlib.Core.Bool.{true, false}
 use mathlib.Core.Option.{Option, none, some}
-use mathlib.Core.List.{List}
-use lib.ListN.{length}
+use mathlib.Core.List.{List, [], ◌∷◌}
+use lib.ListN.{length, get_or, take, drop}
 use borrow.Author.Tests.{eq-eqb, ne_eqb}
 use Rattle.basics.specs.Refusals.{Answer, refused, success, fault}
 use Rattle.geometry.specs.Position.{dimension}
 use Rattle.std.specs.Prelude.{Some, None}
+use Rattle.std.specs.Simd.{first_chunks}
 use Rattle.grid_search.specs.declared.GridSearch.{GridSearch}
 use Rattle.grid_search.specs.Sheet.{new_sheet, sheet_ok}
 use Rattle.grid_search.proofs.Remade.{made-good}
 use Rattle.records.specs.declared.Record.{Record}
 use Rattle.records.specs.Records.{record_at}
+use Rattle.records.proofs.Laws.{cut_out}
 use Rattle.loading.specs.Loading.{place_of, file_tests, unless, sheet_of_records, sheet_in}
 
 module _ (bytes : List ℕ) where
+  -- the records of its halves
+  pub in_halves : (halves : List (List ℕ)) → length bytes ≡ 64 → halves ≡ first_chunks 32 (length bytes / 32) bytes
+      → (record_at (get_or halves 0 []) 0 ≡ record_at bytes 0) × (record_at (get_or halves 1 []) 0 ≡ record_at bytes 32)
+  in_halves halves e h =
+      let two : halves ≡ take 32 bytes ∷ take 32 (drop 32 bytes) ∷ [] = h ∙ ap (λ (k : ℕ). first_chunks 32 (k / 32) bytes) e in
+      ( ap (λ (p : List (List ℕ)). record_at (get_or p 0 []) 0) two ∙ cut_out bytes 0
+      , ap (λ (p : List (List ℕ)). record_at (get_or p 1 []) 0) two ∙ cut_out bytes 32
+      )
+
   pub not-two : (length bytes ≡ 64 → ⊥) → refused 13 ≡ sheet_of_records bytes
   unfolding sheet_of_records file_tests fault unless
   not-two h = rw (ne_eqb (length bytes) 64 h)

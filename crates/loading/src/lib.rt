@@ -23,8 +23,9 @@ pub fn sheet_of_records(bytes: &[u8]) -> Result<GridSearch, Refusal>
     if bytes.len() != 64 {
         return Err(Refusal::Damaged);
     }
-    let low = records::record_at(bytes, 0);
-    let high = records::record_at(bytes, 32);
+    let (halves, _) = bytes.as_chunks();
+    let low = records::record_of(&halves[0]);
+    let high = records::record_of(&halves[1]);
     let ndim = Dimension::try_from(low.id as usize)?;
     let xmin = [low.x, low.y, low.z];
     let xmax = [high.x, high.y, high.z];

@@ -12,10 +12,10 @@ use lib.Ieee.{Float, binary64, lt, add, mul, of_int, of_bits}
 use borrow.Author.Tests.{le-leb, lt-leb}
 use Rattle.floats.specs.Rounded.{◌⊕◌, ◌⊗◌, ◌⊘◌, of_nat, truncate, zero_f, pow2⁻}
 use Rattle.floats.specs.Tests.{abs_of, same_bits}
-use Rattle.millimetres.specs.Millimetres.{limit, signed, value_of, nearest_to, is_decimal, decimal_of, whole_of}
-use mir.Syntax.{w64}
-use mir.Val.{to_z, of_z}
-use Rattle.millimetres.proofs.Signed.{size-signed, read_back}
+use Rattle.millimetres.specs.Millimetres.{limit, signed, value_of, nearest_to, is_decimal, decimal_of}
+use Rattle.millimetres.specs.Told.{whole_of}
+use Rattle.millimetres.specs.declared.Millimetres.{Millimetres}
+use Rattle.millimetres.proofs.Signed.{size-signed}
 
 -- ---- the definitions, with the parts as variables
 abbrev answer : Bool → ℤ → Option ℤ
@@ -46,11 +46,11 @@ pub zero_is : of_bits binary64 0 ≡ zero_f
 unfolding of_bits
 zero_is = refl
 
-chosen : (b : Bool) (m : ℤ) → whole_of (then_some b m) ≡ answer b m
+chosen : (b : Bool) (m : Millimetres) → whole_of (then_some b m) ≡ answer b m.count
 chosen true m = refl
 chosen false m = refl
 
--- ---- `millimetres_of`, with what its callees answer
+-- ---- `Millimetres::of`, with what its callees answer
 module _ (x a : Float) (n : ℕ) (p : a ≡ abs_of x) (q : n ≡ truncate (add binary64 (mul binary64 a (of_bits binary64 0x408f_4000_0000_0000)) (of_bits binary64 0x3fe0_0000_0000_0000))) where
   nearest_of : signed (lt x (of_bits binary64 0)) n ≡ nearest_to x
   nearest_of = rw (nearest-is x, q, p, thousand, half, zero_is)
@@ -61,14 +61,15 @@ module _ (x a : Float) (n : ℕ) (p : a ≡ abs_of x) (q : n ≡ truncate (add b
   pub too_large : limit < n → none ≡ decimal_of x
   too_large h = sym (decimal-is x ∙ rw (lt-leb (nat_abs (nearest_to x)) limit (subst (λ (k : ℕ). limit < k) (sym count-is) h)))
 
-  module _ (m : ℤ) (r : m ≡ signed (lt x (of_bits binary64 0)) n) (h : n ≤ limit) where
+  module _ (m : Millimetres) (r : m.count ≡ signed (lt x (of_bits binary64 0)) n) (h : n ≤ limit) where
     nearest-within : nat_abs (nearest_to x) ≤ limit
     nearest-within = subst (λ (k : ℕ). k ≤ limit) (sym count-is) h
 
-    held : to_z w64 (of_z w64 m) ≡ nearest_to x
-    held = ap (λ (z : ℤ). to_z w64 (of_z w64 z)) (r ∙ nearest_of) ∙ read_back (nearest_to x) nearest-within
+    held : m.count ≡ nearest_to x
+    held = r ∙ nearest_of
 
-    pub answered : (v : Float) (b : Bool) (r : prelude.Option ℤ) → v ≡ value_of (to_z w64 (of_z w64 m)) → b ≡ same_bits v x → r ≡ then_some b (to_z w64 (of_z w64 m)) → whole_of r ≡ decimal_of x
+    pub answered : (v : Float) (b : Bool) (r : prelude.Option Millimetres)
+        → v ≡ value_of m.count → b ≡ same_bits v x → r ≡ then_some b m → whole_of r ≡ decimal_of x
     answered v b r e f g =
         let same : same_bits (value_of (nearest_to x)) x ≡ b = ap (λ (z : ℤ). same_bits (value_of z) x) (sym held) ∙ ap (λ (w : Float). same_bits w x) (sym e) ∙ sym f in
-        rw (g, chosen b (to_z w64 (of_z w64 m)), held) (sym (decimal-is x ∙ rw (le-leb (nat_abs (nearest_to x)) limit nearest-within, same)))
+        rw (g, chosen b m, held) (sym (decimal-is x ∙ rw (le-leb (nat_abs (nearest_to x)) limit nearest-within, same)))

@@ -1,7 +1,6 @@
 -- Whole millimetres, and the coordinates that they are.
 -- Assumes nothing.
 use Rattle.std.specs.Prelude.{ℕ, Bool, cond, ◌&&◌, leb, ℤ, pos, neg_ℤ, nat_abs, Float}
-use Rattle.std.specs.Prelude as prelude
 use Rattle.std.proofs.Math.Option.{Option, none, some}
 use Rattle.std.specs.Float.{binary64}
 use Rattle.std.specs.Float.Ieee.{of_int, lt}
@@ -35,8 +34,3 @@ is_decimal x = leb (nat_abs (nearest_to x)) limit && same_bits (value_of (neares
 unfoldable pub decimal_of : Float → Option ℤ
 unfolding is_decimal nearest_to
 decimal_of x = cond (is_decimal x) (some (nearest_to x)) none
-
--- what `millimetres_of` answers
-abbrev pub whole_of : prelude.Option ℤ → Option ℤ
-whole_of (prelude.Some m) = some m
-whole_of prelude.None = none

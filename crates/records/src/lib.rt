@@ -1,7 +1,7 @@
 // The 32-byte records of the files: an id and three floats, little-endian.
 #![tactic(auto)]
 
-ghost use Rattle.std.specs.Prelude.{◌+◌, ◌≤◌, ◌≡◌, length, take, drop};
+ghost use Rattle.std.specs.Prelude.{◌≡◌};
 ghost use Rattle.records.specs.Records.{number_at, float_at, record_at};
 
 use basics::Refusal;
@@ -15,42 +15,32 @@ pub struct Record {
     pub z: f64,
 }
 
-// The eight bytes from an offset on.
-fn eight_at(bytes: &[u8], at: usize) -> [u8; 8]
-    requires { at + 8 ≤ length bytes.now }
-    ensures { result ≡ take 8 (drop at bytes.now) }
+// The number in eight bytes, the lowest first.
+#[tactic(auto, using(crate::proofs::Laws::eight_bytes))]
+pub fn number_of(bytes: &[u8; 8]) -> u64
+    ensures { result ≡ number_at bytes.now 0 }
 {
-    <[u8; 8]>::try_from(&bytes[at..at + 8]).unwrap()
-}
-
-#[tactic(auto, using(crate::proofs::Laws::eight_bytes), unfolding(crate::specs::Records::number_at))]
-pub fn number_at(bytes: &[u8], at: usize) -> u64
-    requires { at + 8 ≤ length bytes.now }
-    ensures { result ≡ number_at bytes.now at }
-{
-    u64::from_le_bytes(eight_at(bytes, at))
+    u64::from_le_bytes(*bytes)
 }
 
 // Every pattern of a NaN is a NaN.
 #[tactic(auto, unfolding(crate::specs::Records::float_at))]
-pub fn float_at(bytes: &[u8], at: usize) -> f64
-    requires { at + 8 ≤ length bytes.now }
-    ensures { result ≡ float_at bytes.now at }
+pub fn float_of(bytes: &[u8; 8]) -> f64
+    ensures { result ≡ float_at bytes.now 0 }
 {
-    std::num::f64_from_bits_with_nan(number_at(bytes, at))
+    std::num::f64_from_bits_with_nan(number_of(bytes))
 }
 
-// The record that starts at an offset.
-#[tactic(auto, unfolding(crate::specs::Records::record_at))]
-pub fn record_at(bytes: &[u8], at: usize) -> Record
-    requires { at + 32 ≤ length bytes.now }
-    ensures { result ≡ record_at bytes.now at }
+// The record in 32 bytes.
+pub fn record_of(bytes: &[u8; 32]) -> Record
+    ensures { result ≡ record_at bytes.now 0 }
 {
+    let (parts, _) = bytes.as_chunks::<8>();
     Record {
-        id: number_at(bytes, at),
-        x: float_at(bytes, at + 8),
-        y: float_at(bytes, at + 16),
-        z: float_at(bytes, at + 24),
+        id: number_of(&parts[0]),
+        x: float_of(&parts[1]),
+        y: float_of(&parts[2]),
+        z: float_of(&parts[3]),
     }
 }
 
@@ -64,9 +54,7 @@ impl TryFrom<&[u8]> for Record {
 
     #[tactic(auto, unfolding(crate::specs::Records::reading, crate::specs::Records::length_tests, basics::specs::Refusals::fault, basics::specs::Refusals::answer))]
     fn try_from(bytes: &[u8]) -> Result<Record, Refusal> {
-        if bytes.len() != 32 {
-            return Err(Refusal::Damaged);
-        }
-        Ok(record_at(bytes, 0))
+        let bytes = bytes.as_array().ok_or(Refusal::Damaged)?;
+        Ok(record_of(bytes))
     }
 }

@@ -14,19 +14,19 @@ pub trait Stored: Copy {
 
 impl Stored for u64 {
     fn from_bytes(bytes: &[u8; 8]) -> u64 {
-        records::number_at(bytes, 0)
+        records::number_of(bytes)
     }
 }
 
 impl Stored for f64 {
     fn from_bytes(bytes: &[u8; 8]) -> f64 {
-        records::float_at(bytes, 0)
+        records::float_of(bytes)
     }
 }
 
 impl Stored for u32 {
     fn from_bytes(bytes: &[u8; 8]) -> u32 {
-        (records::number_at(bytes, 0) & 0xffff_ffff) as u32
+        (records::number_of(bytes) & 0xffff_ffff) as u32
     }
 }
 
@@ -34,6 +34,7 @@ impl Stored for u32 {
 pub trait Compared: Stored {
     fn same(self, stored: Self) -> bool;
 
+    // Kept: it is not `same` with 0: by == a -0 is the same as 0, and an entry that was cleared has to be +0.
     fn is_zero(self) -> bool;
 }
 
@@ -60,6 +61,7 @@ impl Compared for f64 {
 }
 
 // Whether a list has nothing but 0 from an entry on.
+// Kept: a slice from there on would be an Option at each of the five calls: no proof here says that the list reaches so far.
 pub fn zeros<T: Compared>(got: &[T], from: usize) -> bool {
     got.iter().skip(from).all(|x| x.is_zero())
 }

@@ -85,6 +85,7 @@ impl Tallies {
         }; 11])
     }
 
+    // Kept: `agrees` is what is counted, as the calls answer it; an enum of two would be made of it and matched at once.
     pub fn count(&mut self, kind: Kind, agrees: bool) {
         let tally = &mut self.0[kind as usize];
         tally.entries = tally.entries.wrapping_add(1);

@@ -47,8 +47,8 @@ impl Change {
 }
 
 // Exchanges a value for an entry of a list, if the list has the entry.
-fn exchange<T>(list: &mut [T], at: usize, value: &mut T) {
-    if let Some(entry) = list.get_mut(at) {
+fn exchange<T>(entry: Option<&mut T>, value: &mut T) {
+    if let Some(entry) = entry {
         mem::swap(entry, value);
     }
 }
@@ -264,11 +264,11 @@ impl Library {
 
     fn exchange(&mut self, at: usize, change: &mut Option<Change>) {
         match change {
-            Some(Change::Key(key)) => exchange(&mut self.keys, at, key),
-            Some(Change::Id(id)) => exchange(&mut self.ids, at, id),
-            Some(Change::X(x)) => exchange(&mut self.xs, at, x),
-            Some(Change::Y(y)) => exchange(&mut self.ys, at, y),
-            Some(Change::Z(z)) => exchange(&mut self.zs, at, z),
+            Some(Change::Key(key)) => exchange(self.keys.get_mut(at), key),
+            Some(Change::Id(id)) => exchange(self.ids.get_mut(at), id),
+            Some(Change::X(x)) => exchange(self.xs.get_mut(at), x),
+            Some(Change::Y(y)) => exchange(self.ys.get_mut(at), y),
+            Some(Change::Z(z)) => exchange(self.zs.get_mut(at), z),
             None => {}
         }
     }

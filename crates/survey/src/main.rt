@@ -12,33 +12,34 @@ ghost use Rattle.surveyed.specs.Surveyed.{input_text};
 ghost use Rattle.survey.specs.Printed.{Printed};
 
 use basics::Refusal;
-use files::Input;
+use files::InputError;
 use std::io;
 
 // How many bytes came: none where standard input is not held or cannot be read.
-fn came(input: Input, bytes: &[u8; 131072]) -> usize
+fn came(input: Result<usize, InputError>, bytes: &[u8; 131072]) -> usize
     requires { Came input bytes.now }
     ensures { IsPrefixLen result bytes.now }
 {
-    match input {
-        Input::Whole(n) => n,
-        Input::Longer => 0,
-        Input::Unreadable => 0,
-    }
+    input.unwrap_or(0)
 }
 
 // What is printed of what reading standard input answered, and of the bytes that came.
-fn put_input(input: Input, bytes: &[u8], text: &mut [u8; 70804]) -> usize
+fn put_input(
+    input: Result<usize, InputError>,
+    bytes: &[u8],
+    text: &mut [u8; 70804],
+) -> usize
     ensures { Front (input_text (input_answer input) bytes.now) text.new result }
 {
     match input {
-        Input::Whole(_) => surveyed::put_survey(bytes, text),
-        Input::Longer => outcome::put_refused(Refusal::Full, text),
-        Input::Unreadable => outcome::put_refused(Refusal::Damaged, text),
+        Ok(_) => surveyed::put_survey(bytes, text),
+        Err(InputError::Longer) => outcome::put_refused(Refusal::Full, text),
+        Err(InputError::Unreadable) => outcome::put_refused(Refusal::Damaged, text),
     }
 }
 
 // What is printed of standard input: it stands at the front of the buffer.
+// Kept: as `Display` it could not be told what is printed, since std does not promise that a write answers no error.
 fn put_text(stdin: &impl io::Input, text: &mut [u8; 70804]) -> usize
     ensures prefix_len { IsPrefixLen result text.new }
     ensures printed { Printed (take result text.new) }
@@ -49,6 +50,7 @@ fn put_text(stdin: &impl io::Input, text: &mut [u8; 70804]) -> usize
     put_input(input, &bytes[..n], text)
 }
 
+// Kept: one `main` for both programs would take `put_text` as a closure, and ask of it that the text fits: longer than both are.
 fn main(rt: HostRuntime) {
     let mut text = [0u8; 70804];
     let n = put_text(&rt, &mut text);

@@ -7,9 +7,6 @@ use mathlib.Core.Bool.{true, false, ◌&&◌}
 use mathlib.Core.Option.{none, some}
 use mathlib.Core.List.{List, [], ◌∷◌, ◌++◌, append-nil, append_assoc}
 use lib.IntN.{ℤ, nat_abs}
-use mir.Syntax.{w64}
-use mir.Val.{to_z, of_z}
-use Rattle.millimetres.proofs.Signed.{read_back}
 use lib.Dec.{leb}
 use lib.ListN.{length, length-append}
 use lib.Ieee.{Float}
@@ -30,7 +27,7 @@ use Rattle.survey_export.specs.declared.Decimals.{Decimals}
 
 -- ---- the millimetres of a coordinate and of a mark
 
--- of a float for which `millimetres_of` gave them, or none
+-- of a float for which `Millimetres::of` gave them, or none
 pub decimal-told : (x : Float) {m : ℤ} → some m ≡ decimal_of x → (is_decimal x ≡ true) × (m ≡ nearest_to x)
 unfolding decimal_of
 decimal-told x e = told (is_decimal x) (nearest_to x) e
@@ -43,17 +40,6 @@ none_told x e = untold (is_decimal x) (nearest_to x) e
 pub within : (x : Float) → is_decimal x ≡ true → nat_abs (nearest_to x) ≤ limit
 unfolding is_decimal
 within x e = leb-true (nat_abs (nearest_to x)) limit (and_left (leb (nat_abs (nearest_to x)) limit) (same_bits (value_of (nearest_to x)) x) e)
-
--- and are read back from the bits that hold them
-module _ (x : Float) {m : ℤ} (e : some m ≡ decimal_of x) where
-  size : nat_abs m ≤ limit
-  size = let t = decimal-told x e in rw t.1 (within x t.0)
-
-  pub decimal_within : nat_abs (to_z w64 (of_z w64 m)) ≤ limit
-  decimal_within = rw (read_back m size) size
-
-  pub decimal_back : to_z w64 (of_z w64 m) ≡ nearest_to x
-  decimal_back = read_back m size ∙ (decimal-told x e).1
 
 -- the coordinates of a good mark are decimals
 pub record Good (m : Record) : Type 0 where
@@ -73,7 +59,7 @@ good m e =
 
 -- ---- a line
 
-pub line-is : (m : Record) (d : Decimals) → Told m d → line_text m.id d.x d.y d.z ≡ line_of m
+pub line-is : (m : Record) (d : Decimals) → Told m d → line_text m.id d.x.count d.y.count d.z.count ≡ line_of m
 unfolding line_of
 line-is m d t = λ i. line_text m.id (t.x_is i) (t.y_is i) (t.z_is i)
 

@@ -60,13 +60,13 @@ module _ {l : MarkList} {old now : Writer} {i : ℕ} (s : Sofar l old now i) whe
     bad_mark b (Err d) k = (all_stop good_mark (marks_in l) i s.judged m inside (ap good_mark is_mark ∙ b.0), k.1 ∙ b.1)
 
     module _ {d : Decimals} (t : Told m d) (small : m.id < 2 ^ 64) where
-      line_short : length (line_text m.id d.x d.y d.z) ≤ longest
+      line_short : length (line_text m.id d.x.count d.y.count d.z.count) ≤ longest
       line_short = rw (line-is m d t) (line-most m t.good small)
 
-      pub fits : l.used ≤ 65536 → now.at + length (line_text m.id d.x d.y d.z) < 2 ^ 64
+      pub fits : l.used ≤ 65536 → now.at + length (line_text m.id d.x.count d.y.count d.z.count) < 2 ^ 64
       fits few = omega (arith, line_short, s.short)
 
-      pub next_mark : {after : Writer} → Puts (line_text m.id d.x d.y d.z) now after → Sofar l old after (i + 1)
+      pub next_mark : {after : Writer} → Puts (line_text m.id d.x.count d.y.count d.z.count) now after → Sofar l old after (i + 1)
       next_mark p = record {
         judged = all-next good_mark (marks_in l) i s.judged m inside (ap good_mark is_mark ∙ t.good);
         put = rw (take_more (marks_in l) i m inside, is_mark, text_more) (puts_both s.put (rw (line-is m d t) at p));

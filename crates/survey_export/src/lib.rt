@@ -1,9 +1,8 @@
 // Request d of document 02: point lists for the surveyors. Marks become a text of lines in a lent buffer.
 #![tactic(auto)]
 
-ghost use Rattle.std.specs.Prelude.{◌≡◌, ◌+◌, ◌^◌, ◌≤◌, ◌<◌, nat_abs, length};
+ghost use Rattle.std.specs.Prelude.{◌≡◌, ◌+◌, ◌^◌, ◌≤◌, ◌<◌, length};
 ghost use Rattle.text.specs.Writers.{Puts};
-ghost use Rattle.millimetres.specs.Millimetres.{limit};
 ghost use Rattle.decimals.specs.Decimals.{coordinate_text};
 ghost use Rattle.mark_lists.specs.MarkLists.{marks_in};
 ghost use Rattle.mark_lists.specs.Posts.{Room};
@@ -13,18 +12,16 @@ ghost use Rattle.survey_export.specs.Posts.{with_comma, PutsMarks};
 
 use basics::Refusal;
 use mark_lists::MarkLists;
+use millimetres::Millimetres;
 use records::Record;
 use text::Writer;
 
 // The coordinates of a mark in millimetres.
 #[derive(Clone, Copy)]
 struct Decimals {
-    x: i64,
-    y: i64,
-    z: i64,
-    ghost x_within: { nat_abs x ≤ limit },
-    ghost y_within: { nat_abs y ≤ limit },
-    ghost z_within: { nat_abs z ≤ limit },
+    x: Millimetres,
+    y: Millimetres,
+    z: Millimetres,
 }
 
 impl Decimals {
@@ -34,18 +31,17 @@ impl Decimals {
     fn of(mark: Record) -> Option<Decimals>
         ensures { Tells mark result }
     {
-        let x = millimetres::millimetres_of(mark.x)?;
-        let y = millimetres::millimetres_of(mark.y)?;
-        let z = millimetres::millimetres_of(mark.z)?;
+        let x = Millimetres::of(mark.x)?;
+        let y = Millimetres::of(mark.y)?;
+        let z = Millimetres::of(mark.z)?;
         Some(Decimals { x, y, z })
     }
 }
 
 // A coordinate, with the comma after it.
-fn put_field(writer: &mut Writer, millimetres: i64)
-    requires within { nat_abs millimetres ≤ limit }
-    requires room { writer.old.at + length (with_comma (coordinate_text millimetres)) < 2 ^ 64 }
-    ensures { Puts (with_comma (coordinate_text millimetres)) writer.old writer.new }
+fn put_field(writer: &mut Writer, millimetres: Millimetres)
+    requires { writer.old.at + length (with_comma (coordinate_text millimetres.count)) < 2 ^ 64 }
+    ensures { Puts (with_comma (coordinate_text millimetres.count)) writer.old writer.new }
 {
     decimals::put_coordinate(writer, millimetres);
     writer.put_byte(b',');
@@ -54,8 +50,8 @@ fn put_field(writer: &mut Writer, millimetres: i64)
 // The line of a mark: the description after the fourth comma is empty.
 #[tactic(auto, using(crate::proofs::Laws::line_length, crate::proofs::Laws::comma_length))]
 fn put_mark(writer: &mut Writer, id: u64, decimals: Decimals)
-    requires { writer.old.at + length (line_text id decimals.x decimals.y decimals.z) < 2 ^ 64 }
-    ensures { Puts (line_text id decimals.x decimals.y decimals.z) writer.old writer.new }
+    requires { writer.old.at + length (line_text id decimals.x.count decimals.y.count decimals.z.count) < 2 ^ 64 }
+    ensures { Puts (line_text id decimals.x.count decimals.y.count decimals.z.count) writer.old writer.new }
 {
     writer.put_decimal(id);
     writer.put_byte(b',');

@@ -1,6 +1,6 @@
 -- The fields of a line, and when it is good.
 -- Assumes nothing.
-use Prim.Native.Nat.{ℕ, suc, ◌+◌, ◌-◌, ◌≤◌, ◌<◌}
+use Prim.Native.Nat.{ℕ, suc, ◌+◌, ◌-◌, ◌<◌}
 use native.Mathlib.Nat.{eq-or-lt_of_le}
 use native.Mathlib.Numerals.{add-one}
 use native.Mathlib.Omega.{arith}
@@ -25,14 +25,10 @@ use Rattle.records.specs.declared.Record.{Record}
 use Rattle.text.specs.Text.{number_of}
 use Rattle.lines.specs.Pieces.{split}
 use Rattle.lines.proofs.Pieces.{leading_found, leading_unfound, split-first, split-none, split-some}
-use Rattle.millimetres.specs.Millimetres.{limit, value_of}
-use lib.IntN.{ℤ, nat_abs}
-use mir.Syntax.{w64}
-use mir.Val.{to_z, of_z}
-use Rattle.millimetres.proofs.Signed.{read_back}
+use Rattle.millimetres.specs.Millimetres.{value_of}
+use lib.IntN.{ℤ}
 use Rattle.decimals.specs.Decimals.{is_number, is_coordinate, millimetres, number_in, millimetres_in}
 use Rattle.decimals.proofs.Digits.{told, untold}
-use Rattle.decimals.proofs.Laws.{millimetres-size}
 use Rattle.survey_import.specs.Marks.{is_description, good_line, mark_of, mark_in, line_read, plain}
 use Rattle.survey_import.specs.declared.Fields.{Fields}
 use Rattle.survey_import.specs.Posts.{value_in, AreFields}
@@ -103,15 +99,9 @@ module _ (field : List ℕ) where
   value-none e = rw (untold (is_coordinate field) (millimetres field) e)
 
   module _ {m : ℤ} (e : some m ≡ millimetres_in field) where
-    within : nat_abs m ≤ limit
-    within = millimetres-size field m (sym e)
-
-    pub value-within : nat_abs (to_z w64 (of_z w64 m)) ≤ limit
-    value-within = rw (read_back m within) within
-
-    pub value-some : {x : Float} → x ≡ value_of (to_z w64 (of_z w64 m)) → some x ≡ value_in field
+    pub value-some : {x : Float} → x ≡ value_of m → some x ≡ value_in field
     unfolding millimetres_in value_in
-    value-some k = let t = told (is_coordinate field) (millimetres field) e in rw (k, read_back m within, t.0, t.1)
+    value-some k = let t = told (is_coordinate field) (millimetres field) e in rw (k, t.0, t.1)
 
 -- what reading a line answers: a mark exactly where the line is good
 pub good_read : (line : List ℕ) (r : prelude.Option Record) → line_read r ≡ mark_in line → good_line line ≡ is_some r

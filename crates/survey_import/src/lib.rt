@@ -97,7 +97,7 @@ fn read_value(field: &[u8]) -> Option<f64>
     ensures { value_read result ≡ value_in field.now }
 {
     let n = decimals::read_coordinate(field)?;
-    Some(millimetres::value_of(n))
+    Some(n.value())
 }
 
 // The mark of a line.

@@ -24,6 +24,7 @@ impl<'a> Writer<'a> {
         Writer { buffer, at: 0 }
     }
 
+    // Kept: std's writer into a slice stops at its end; this one counts on there, which measures a text.
     pub fn put_byte(&mut self, byte: u8)
         requires { self.old.at + 1 < 2 ^ 64 }
         ensures { Puts (byte ∷ []) self.old self.new }
@@ -34,6 +35,7 @@ impl<'a> Writer<'a> {
         self.at += 1;
     }
 
+    // Kept: `write_all` into a slice stops at its end; this one counts on there, as `put_byte` does.
     pub fn put_text(&mut self, text: &[u8])
         requires { self.old.at + length text.now < 2 ^ 64 }
         ensures { Puts text.now self.old self.new }
@@ -58,6 +60,7 @@ impl<'a> Writer<'a> {
     }
 
     // The number at index i of several in a row: past the first it has the text between them in front.
+    // Kept: it puts a number as `put_decimal` does, of which `write!` does not promise that it answers no error.
     pub fn put_entry(&mut self, between: &[u8], i: usize, n: u64)
         requires { self.old.at + length (entry_text between.now i n) < 2 ^ 64 }
         ensures { Puts (entry_text between.now i n) self.old self.new }

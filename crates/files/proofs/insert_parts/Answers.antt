@@ -17,7 +17,8 @@ pub returns-then-eq-clause-read : goal.returns-then-eq-clause-read
 returns-then-eq-clause-read g c =
     let a = c.args in
     ended a.width a.sheet (lent_mut a.library.now) (lent_mut c.insert_part.new.library)
-    (more a.width a.sheet c.requires (lent_mut a.library.now) c.loop.invariant.0 c.in_ok-part.ensures.read) _ _ c.marks_answer.result c.marks_answer.ensures
+    (more a.width a.sheet c.requires (lent_mut a.library.now) c.loop.invariant.0 c.in_ok-part.ensures.read)
+    _ c.marks_answer.result c.marks_answer.ensures
 
 pub loop-preserved : goal.loop-preserved
 loop-preserved g c =

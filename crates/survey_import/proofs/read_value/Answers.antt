@@ -1,11 +1,8 @@
-use Rattle.survey_import.proofs.Reading.{value-none, value-within, value-some}
+use Rattle.survey_import.proofs.Reading.{value-none, value-some}
 use Rattle.survey_import.proofs.read_value.Goals as goal
 
 pub returns-in_err-n : goal.returns-in_err-n
 returns-in_err-n c = rw c.from_residual.ensures (value-none _ c.in_err-n.ensures)
 
-pub value_of-requires : goal.value_of-requires
-value_of-requires c = value-within c.args.field.now c.in_ok-n.ensures
-
 pub returns : goal.returns
-returns c = value-some _ c.in_ok-n.ensures c.value_of.ensures
+returns c = value-some _ c.in_ok-n.ensures c.value.ensures

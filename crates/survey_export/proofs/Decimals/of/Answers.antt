@@ -1,7 +1,7 @@
 -- The coordinates are asked one after the other, and the first that is no decimal's value decides.
 -- Assumes nothing.
 use Rattle.survey_export.specs.Export.{good_mark}
-use Rattle.survey_export.proofs.Laws.{none_told, decimal-told, decimal_back, decimal_within}
+use Rattle.survey_export.proofs.Laws.{none_told, decimal-told}
 use Rattle.survey_export.proofs.Decimals.of.Goals as goal
 
 pub returns-in_err-x : goal.returns-in_err-x
@@ -16,14 +16,11 @@ pub returns-in_err-z : goal.returns-in_err-z
 unfolding good_mark
 returns-in_err-z c = rw (c.from_residual-in_err-z.ensures, (decimal-told _ c.in_ok-x.ensures).0, (decimal-told _ c.in_ok-y.ensures).0, none_told _ c.in_err-z.ensures)
 
-pub invariant_of-result : goal.invariant_of-result
-invariant_of-result c = record { x_within = decimal_within _ c.in_ok-x.ensures; y_within = decimal_within _ c.in_ok-y.ensures; z_within = decimal_within _ c.in_ok-z.ensures }
-
 pub returns : goal.returns
 unfolding good_mark
 returns c = record {
   good = rw ((decimal-told _ c.in_ok-x.ensures).0, (decimal-told _ c.in_ok-y.ensures).0, (decimal-told _ c.in_ok-z.ensures).0);
-  x_is = decimal_back _ c.in_ok-x.ensures;
-  y_is = decimal_back _ c.in_ok-y.ensures;
-  z_is = decimal_back _ c.in_ok-z.ensures;
+  x_is = (decimal-told _ c.in_ok-x.ensures).1;
+  y_is = (decimal-told _ c.in_ok-y.ensures).1;
+  z_is = (decimal-told _ c.in_ok-z.ensures).1;
 }
