@@ -14,7 +14,7 @@ ghost use Rattle.capi.specs.Directories.{ToldBuilt, ToldLooked, ToldFiled, ToldT
 
 use crate::lists::filter_of;
 use crate::sheet::sheet_of;
-use crate::told::{number_of, tell, tell_count};
+use crate::told::{tell, tell_count};
 use directory::{Directory, DirectoryMut};
 use table::{ItemId, Library, LibraryMut};
 
@@ -52,11 +52,10 @@ pub fn gemlab_directory_build(
         keys: dir_keys,
         firsts: dir_firsts,
         counts: dir_counts,
-        used: *dir_used as usize,
+        used: 0,
     };
     let answer = directory::build(sheet, library, &mut directory);
-    *dir_used = directory.used as u64;
-    number_of(answer)
+    tell_count(answer, dir_used)
 }
 
 // Looks a key up in a directory: found is 1 and place the key's place, or found is 0 and place stays; reads is how many places
@@ -151,9 +150,10 @@ pub fn gemlab_directory_insert(
         used: *dir_used as usize,
     };
     let answer = directory_insert::insert(sheet, &mut library, &mut directory, ItemId(id), x);
-    *used = library.used as u64;
-    *dir_used = directory.used as u64;
-    number_of(answer)
+    if answer.is_ok() {
+        *dir_used = directory.used as u64;
+    }
+    tell_count(answer, used)
 }
 
 // Takes every row of an id out of a library as `gemlab_grid_search_strike` does, brings the directory up to date, and writes both
@@ -199,8 +199,10 @@ pub fn gemlab_directory_strike(
         used: *dir_used as usize,
     };
     let answer = directory_strike::strike(sheet, &mut library, &mut directory, ItemId(id));
-    *used = library.used as u64;
-    *dir_used = directory.used as u64;
+    if answer.is_ok() {
+        *used = library.used as u64;
+        *dir_used = directory.used as u64;
+    }
     tell_count(answer, removed)
 }
 

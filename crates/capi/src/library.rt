@@ -8,7 +8,7 @@ ghost use Rattle.capi.specs.Sheets.{sheet_of};
 ghost use Rattle.capi.specs.Libraries.{ToldTurn, ToldStruck, ToldWalk, ToldFound};
 
 use crate::sheet::sheet_of;
-use crate::told::{number_of, tell, tell_count};
+use crate::told::{tell, tell_count};
 use table::{ItemId, Library, LibraryMut};
 
 // Puts a mark into its own container and those of its halo corners, and writes the new count. Returns 0, or the first of 24,
@@ -39,8 +39,7 @@ pub fn gemlab_grid_search_insert(
         used: *used as usize,
     };
     let answer = rows::insert(sheet, &mut library, ItemId(id), x);
-    *used = library.used as u64;
-    number_of(answer)
+    tell_count(answer, used)
 }
 
 // Takes every row of an id out of the library, and writes the new count and how many rows went. Returns 0, or the first of 24,
@@ -72,7 +71,9 @@ pub fn gemlab_grid_search_strike(
         used: *used as usize,
     };
     let answer = strike::strike(sheet, &mut library, ItemId(id));
-    *used = library.used as u64;
+    if answer.is_ok() {
+        *used = library.used as u64;
+    }
     tell_count(answer, removed)
 }
 

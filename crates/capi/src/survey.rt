@@ -29,12 +29,13 @@ pub fn gemlab_survey_import(
         xs,
         ys,
         zs,
-        used: *used as usize,
+        used: 0,
     };
-    let answer = survey_import::import(text, &mut lists);
-    *used = lists.used as u64;
-    match answer {
-        Ok(_) => 0,
+    match survey_import::import(text, &mut lists) {
+        Ok(n) => {
+            *used = n as u64;
+            0
+        }
         Err(ImportError::Malformed(bad)) => {
             *line = bad as u64;
             u64::from(Refusal::Malformed)
