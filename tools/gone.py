@@ -98,7 +98,8 @@ def read(commit):
                 stated = " ".join(f.params) + " | " + " ".join(f"{w} {c}" for w, c in f.clauses)
                 found[crate, f.name + "()"].append((f.name + "()", plain(stated, f.name) if f.clauses else None))
                 for w in words(" ".join(c for _, c in f.clauses)):
-                    users[imported.get(w, (crate, flat(w)))].add((crate, f.name + "()"))
+                    if w in imported:
+                        users[imported[w]].add((crate, f.name + "()"))
                 for w in re.findall(r"\b(\w+)(?:::<[^(]*>)?\(", f.body):
                     users[crate, w + "()"].add((crate, f.name + "()"))
         elif "/" in module:
@@ -163,18 +164,18 @@ def main():
     wrong += [f"tools/gone.tsv: {c} {n} is not gone" for c, n in told if (c, n) in new or (c, n) not in old]
     for key in sorted(k for k in old if k not in new and k not in elsewhere):
         crate, name = key[0], old[key][0][0]
-        same = sorted({(c != crate, c, n) for _, stated in old[key] if stated for c, n in alike.get(stated, [])})
+        same = sorted({(c != crate, -len(n), c, n) for _, stated in old[key] if stated for c, n in alike.get(stated, [])})
         uses = served(key, users, new)
-        if key in told:
+        if all(stated is None for _, stated in old[key]):
+            silent[crate].append(name)
+        elif key in told:
             pages[crate]["1 " + told[key]].append(name)
         elif same:
-            other, c, n = same[0]
+            other, _, c, n = same[0]
             pages[crate][f"0 `{c}` has the same as `{n}`" if other else f"0 now `{n}`"].append(name)
         elif uses:
             stand = [n if c == crate else f"{c}: {n}" for c, n in uses]
             pages[crate][f"2 only for {listed(stand)}"].append(name)
-        elif all(stated is None for _, stated in old[key]):
-            silent[crate].append(name)
         else:
             wrong.append(f"{crate} {name}: nothing is said of it")
     for crate in sorted(set(pages) | set(silent)):
