@@ -53,11 +53,11 @@ def items(text):
         if said.startswith("module"):
             scopes.append((here + 2, block[6:]))
         m = ITEM.match(said)
-        if m and not said.startswith("module"):
+        if m and here == scopes[-1][0] and not said.startswith("module"):
             name = m.group(1) or m.group(2)
             proof = end
             while proof < len(lines) and depth[proof] >= here and (
-                    depth[proof] > here or re.match(re.escape(name) + r"\s|unfolding\b", lines[proof].strip())):
+                    depth[proof] > here or re.match(re.escape(name) + r"\s|unfolding\b|[})]", lines[proof].strip())):
                 proof += 1
             body = " ".join(line.strip() for line in lines[i:proof])
             stated = body if re.match("abbrev|unfoldable", said) else block
