@@ -178,6 +178,9 @@ def main():
             pages[crate][f"2 only for {listed(stand)}"].append(name)
         else:
             wrong.append(f"{crate} {name}: nothing is said of it")
+    went = [sum(len(names) for page in pages.values() for what, names in page.items() if what[0] == kind) for kind in "012"]
+    print(f"Of {len(old):,} names {sum(went) + sum(map(len, silent.values()))} went: {went[0]} have another name, of {went[1]} a row")
+    print(f"says what states them, {went[2]} served others, {sum(map(len, silent.values()))} functions had no contract.")
     for crate in sorted(set(pages) | set(silent)):
         print(f"\n### `{crate}`: what went\n")
         for what, names in sorted(pages[crate].items()):
