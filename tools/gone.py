@@ -161,7 +161,9 @@ def main():
         elsewhere.add((parts[0], flat(parts[-1]) + ("()" if "::" in name else "")))
     pages = defaultdict(lambda: defaultdict(list))
     silent = defaultdict(list)
-    wrong += [f"tools/gone.tsv: {c} {n} is not gone" for c, n in told if (c, n) in new or (c, n) not in old]
+    for c, n in told:
+        if (c, n) in new or (c, n) not in old:
+            print(f"tools/gone.tsv: {c} {n} has not gone", file=sys.stderr)
     for key in sorted(k for k in old if k not in new and k not in elsewhere):
         crate, name = key[0], old[key][0][0]
         same = sorted({(c != crate, -len(n), c, n) for _, stated in old[key] if stated for c, n in alike.get(stated, [])})
@@ -178,9 +180,12 @@ def main():
             pages[crate][f"2 only for {listed(stand)}"].append(name)
         else:
             wrong.append(f"{crate} {name}: nothing is said of it")
-    went = [sum(len(names) for page in pages.values() for what, names in page.items() if what[0] == kind) for kind in "012"]
-    print(f"Of {len(old):,} names {sum(went) + sum(map(len, silent.values()))} went: {went[0]} have another name, of {went[1]} a row")
-    print(f"says what states them, {went[2]} served others, {sum(map(len, silent.values()))} functions had no contract.")
+    went = [sum(len(names) for page in pages.values() for what, names in page.items() if what[0] == kind)
+            for kind in "012"] + [sum(len(names) for names in silent.values())]
+    print(textwrap.fill(
+        f"Of {len(old):,} names {sum(went)} went, besides those in the list of contracts: {went[0]} have another "
+        f"name, of {went[1]} it is said what states them, {went[2]} were used for what stands, and {went[3]} "
+        "were functions without a contract.", 100))
     for crate in sorted(set(pages) | set(silent)):
         print(f"\n### `{crate}`: what went\n")
         for what, names in sorted(pages[crate].items()):
