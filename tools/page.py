@@ -2,7 +2,7 @@
 """Writes again what commands print on docs/DESIGN-PASS.md.
 
 tools/page.py: between a line `<!-- COMMAND -->` and the next line `<!-- end -->` stands what the
-command prints; the rest of the page is written by hand. It ends with 1 where a command does, or
+command prints, as text where the line is `<!-- text: COMMAND -->`; the rest is written by hand. It ends with 1 where a command does, or
 where the rest names a function or a type, as `CRATE::NAME`, that is not in the crate.
 """
 import re
@@ -11,7 +11,7 @@ import sys
 
 from places import files_of
 
-MADE = re.compile(r"^<!-- (python3 [^\n]*) -->\n.*?^<!-- end -->\n", re.M | re.S)
+MADE = re.compile(r"^<!-- (text: )?(python3 [^\n]*) -->\n.*?^<!-- end -->\n", re.M | re.S)
 PAGE = "docs/DESIGN-PASS.md"
 
 
@@ -21,10 +21,13 @@ def main():
 
     def made(m):
         nonlocal failed
-        run = subprocess.run(m.group(1).split(), capture_output=True, text=True)
+        run = subprocess.run(m.group(2).split(), capture_output=True, text=True)
         sys.stderr.write(run.stderr)
         failed |= run.returncode != 0
-        return f"<!-- {m.group(1)} -->\n\n{run.stdout.strip()}\n\n<!-- end -->\n"
+        printed = run.stdout.strip("\n")
+        if m.group(1):
+            printed = f"```text\n{printed}\n```"
+        return f"<!-- {m.group(1) or ''}{m.group(2)} -->\n\n{printed}\n\n<!-- end -->\n"
 
     text = MADE.sub(made, text)
     open(PAGE, "w").write(text)
