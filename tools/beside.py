@@ -87,6 +87,10 @@ def definitions(name, text):
         indent = len(line) - len(line.lstrip())
         word = re.match(r"\s*(?:(?:abbrev|unfoldable) )?pub (record |data )?([^\s:({]+)", line)
         field = current and inner and indent > depth
+        private = re.match(r"(?:abbrev |unfoldable )?([^\s(){}:]+) :(?: |$)", line.strip())
+        if current and body and private and not field and indent <= depth and not current.endswith("." + private.group(1)):
+            yield current, [" ".join(" ".join(body).split())]
+            current, body = None, []
         if (word and not field and indent <= 4) or re.match(r"(module|use|pub|mod)\b", line.strip()):
             if field and not indent == 0:
                 body.append(line.strip())
@@ -160,7 +164,7 @@ def main():
     for crate in crates:
         out = []
         for key in sorted(k for k in old if re.split(r"::|\.", k)[0] == crate):
-            where = renamed.get(key, key)
+            where = key if key in new else renamed.get(key, key)
             if where in new:
                 taken.add(where)
                 if " ".join(old[key]).split() == " ".join(new[where]).split() and where == key:

@@ -123,13 +123,13 @@ def table(path):
     return [line.rstrip("\n").split("\t") for line in open(path) if line.strip() and not line.startswith("#")]
 
 
-def served(key, users, new):
+def served(key, users, stands):
     """What used a name, directly or through others that went, and stands now: functions first."""
     seen, todo, found = {key}, [key], set()
     while todo:
         for user in users[todo.pop()] - seen:
             seen.add(user)
-            if user in new:
+            if user in stands:
                 found.add(user)
             else:
                 todo.append(user)
@@ -159,6 +159,8 @@ def main():
     for name, *_ in table("tools/renamed.tsv"):
         parts = re.split(r"::|\.", name)
         elsewhere.add((parts[0], flat(parts[-1]) + ("()" if "::" in name else "")))
+    # a public function with a new name stands too: the list of contracts shows it
+    stands = set(new) | {k for k in elsewhere if k[1].endswith("()")}
     pages = defaultdict(lambda: defaultdict(list))
     silent = defaultdict(list)
     for c, n in told:
@@ -167,7 +169,7 @@ def main():
     for key in sorted(k for k in old if k not in new and k not in elsewhere):
         crate, name = key[0], old[key][0][0]
         same = sorted({(c != crate, -len(n), c, n) for _, stated in old[key] if stated for c, n in alike.get(stated, [])})
-        uses = served(key, users, new)
+        uses = served(key, users, stands)
         if all(stated is None for _, stated in old[key]):
             silent[crate].append(name)
         elif key in told:
