@@ -143,7 +143,7 @@ def read(commit, words):
 
 def shown(mark, parts):
     for part in parts:
-        print("\n".join(textwrap.wrap(part, 96, initial_indent=mark + " ", subsequent_indent="  ",
+        print("\n".join(textwrap.wrap(part, 100, initial_indent=mark + " ", subsequent_indent="  ",
                                       break_long_words=False, break_on_hyphens=False)))
 
 
@@ -185,7 +185,8 @@ def main():
                 shown("+", b)
             elif b is None:
                 line = f"gone: {key}" + (f"; its promise: {where}" if where else "")
-                print("\n".join(textwrap.wrap(line, 96, subsequent_indent="  ", break_long_words=False, break_on_hyphens=False)))
+                print("\n".join(textwrap.wrap(line, 100, subsequent_indent="  ",
+                                              break_long_words=False, break_on_hyphens=False)))
                 shown("-", a)
             else:
                 print(key if key == where else f"{key} -> {where}")
