@@ -3,6 +3,9 @@
 
 tools/beside.py OLD [NEW]: for docs/DESIGN-PASS.md, of two commits, or of one and the work tree.
 tools/renamed.tsv says which function or definition stands for one that is gone: OLD, a tab, NEW.
+A trait's ghost members count as clauses: `next_gives` of the function `next`, and those that name
+no function (a model's Value, view and invariant) of the type itself. A definition is shown with
+its equations, a theorem of proofs/ by what it states.
 """
 import re
 import subprocess
@@ -16,6 +19,7 @@ def functions(name, text):
     """Public functions with their type, signature and clauses; structs with their ghost fields."""
     crate = name.split("/")[1]
     types = []
+    ghosts = {}
     for m in re.finditer(r"^(?:impl|trait)\b[^{;]*\{", text, re.M):
         head = m.group(0)
         to = close(text, m.end() - 1)
@@ -23,6 +27,10 @@ def functions(name, text):
         if k:
             trait = f" as {k.group(1)}" if k.group(1) else ""
             types.append((m.start(), to, k.group(2) + trait))
+            for g in re.finditer(r"^ +ghost (\w+) = \{", text[m.end():to], re.M):
+                end = close(text, m.end() + g.end() - 1)
+                said = " ".join(text[m.end() + g.start():end].split()) + ";"
+                ghosts.setdefault(k.group(2) + trait, {})[g.group(1)] = said
     for m in re.finditer(r"^( *)(pub )?((?:const )?(?:unsafe )?(?:extern \"C\" )?fn (\w+))", text, re.M):
         owner = next((t for a, b, t in types if a < m.start() < b), None)
         if not m.group(2) and not (owner and " as " in owner):
@@ -46,9 +54,15 @@ def functions(name, text):
             end = close(text, open_at)
             clauses.append(" ".join(text[k.start():end].split()))
             k = re.compile(r"\b(?:requires|ensures)\*?\s*[\w*]*\s*\{|\{").search(text, end)
+        mine = [g for g in ghosts.get(owner, {}) if g.startswith(m.group(4) + "_")]
+        clauses += [ghosts[owner].pop(g) for g in mine]
         own = owner.split(" as ")[0] + "::" if owner else ""
         trait = f" ({owner.split(' as ')[1]})" if owner and " as " in owner else ""
         yield f"{crate}::{own}{m.group(4)}{trait}", [sig] + clauses
+    for owner, said in ghosts.items():
+        if said:
+            own, _, trait = owner.partition(" as ")
+            yield f"{crate}::{own} ({trait})", [f"impl {trait} for {own}"] + list(said.values())
     for m in re.finditer(r"^pub (struct|enum) (\w+)", text, re.M):
         if re.match(r"[^{;]*;", text[m.end():]):
             body = text[m.start():text.index(";", m.end()) + 1]
@@ -59,17 +73,24 @@ def functions(name, text):
 
 
 def definitions(name, text):
-    """Definitions of specs/ and laws of proofs/, by name: a type, and for specs/ the equations too."""
+    """Definitions with their equations, and the laws of proofs/ by their type, each by its name."""
     crate = name.split("/")[1]
     module = re.sub(r"^crates/[^/]+/(specs|proofs)/", "", name)[:-5].replace("/", ".")
     in_specs = "/specs/" in name
-    current, body, inner = None, [], False
+    current, body, inner, whole, depth = None, [], False, in_specs, 0
     for line in text.split("\n") + ["pub end"]:
+        if not line.strip() and body and whole and not in_specs:
+            yield current, [" ".join(" ".join(body).split())]
+            current, body = None, []
         if line.strip().startswith("--") or not line.strip():
             continue
         indent = len(line) - len(line.lstrip())
         word = re.match(r"\s*(?:(?:abbrev|unfoldable) )?pub (record |data )?([^\s:({]+)", line)
-        field = current and inner and indent > 0
+        field = current and inner and indent > depth
+        private = re.match(r"(?:abbrev |unfoldable )?([^\s(){}:]+) :(?: |$)", line.strip())
+        if current and body and private and not field and indent <= depth and not current.endswith("." + private.group(1)):
+            yield current, [" ".join(" ".join(body).split())]
+            current, body = None, []
         if (word and not field and indent <= 4) or re.match(r"(module|use|pub|mod)\b", line.strip()):
             if field and not indent == 0:
                 body.append(line.strip())
@@ -79,10 +100,12 @@ def definitions(name, text):
             current, body, inner = None, [], False
             if word and word.group(2) not in ("use", "mod", "end"):
                 current = f"{crate}.{module}.{word.group(2)}"
-                inner = bool(word.group(1))
+                inner, depth = bool(word.group(1)), indent
+                whole = in_specs or inner or re.match(r"\s*(abbrev|unfoldable)\b", line)
         if not current:
             continue
-        if not in_specs and body and re.match(re.escape(current.rsplit(".", 1)[1]) + r"\s|\s*unfolding\b|\s*where\b", line.strip()):
+        if not whole and body and re.match(
+                re.escape(current.rsplit(".", 1)[1]) + r"\s|\s*unfolding\b|\s*where\b", line.strip()):
             yield current, [" ".join(" ".join(body).split())]
             current, body = None, []
             continue
@@ -120,7 +143,7 @@ def read(commit, words):
 
 def shown(mark, parts):
     for part in parts:
-        print("\n".join(textwrap.wrap(part, 96, initial_indent=mark + " ", subsequent_indent="  ",
+        print("\n".join(textwrap.wrap(part, 100, initial_indent=mark + " ", subsequent_indent="  ",
                                       break_long_words=False, break_on_hyphens=False)))
 
 
@@ -141,7 +164,7 @@ def main():
     for crate in crates:
         out = []
         for key in sorted(k for k in old if re.split(r"::|\.", k)[0] == crate):
-            where = renamed.get(key, key)
+            where = key if key in new else renamed.get(key, key)
             if where in new:
                 taken.add(where)
                 if " ".join(old[key]).split() == " ".join(new[where]).split() and where == key:
@@ -162,7 +185,8 @@ def main():
                 shown("+", b)
             elif b is None:
                 line = f"gone: {key}" + (f"; its promise: {where}" if where else "")
-                print("\n".join(textwrap.wrap(line, 96, subsequent_indent="  ", break_long_words=False, break_on_hyphens=False)))
+                print("\n".join(textwrap.wrap(line, 100, subsequent_indent="  ",
+                                              break_long_words=False, break_on_hyphens=False)))
                 shown("-", a)
             else:
                 print(key if key == where else f"{key} -> {where}")

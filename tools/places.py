@@ -2,11 +2,33 @@
 """Counts the places of docs/DESIGN-PASS.md in the crates' sources.
 
 tools/places.py [-l] [-p POINT] [COMMIT]: of the work tree, or of a commit; -l lists them.
-A place that is kept has a line `// Kept: ..` above it or in it, and is counted apart.
+tools/places.py --table OLD: a row for each point, of a commit beside the work tree.
+tools/places.py --kept: each line `// Kept: ..`, with where it stands.
+
+What counts as a place, in src/ but for specs:
+1. An enum of two variants of which one is bare, or with a variant Refused, Malformed or Unreadable,
+   but for one that is the error of some Result; a struct with a field that is a bool; a function
+   whose contract answers a refusal's number (`code (fault ..`), or that takes a place, a kind, a
+   filter, `opened` or `after` as a number.
+2. Functions outside capi_c whose bodies (14 words and more) are the same but for names, numbers and
+   types of numbers: a place for each such group.
+3. A `while` whose condition compares something that the loop assigns, however it is assigned.
+4. A function whose name says that it compares, orders, converts or prints: same_, is_same, put_byte,
+   put_text, put_decimal, put_entry, .._flag, .._entry, given_, number_at, float_at, ahead, is_lower,
+   one_if, number, min, max, abs.
+5. Three parameters in a row that three functions have, outside capi and capi_c, and a `requires`
+   clause that three contracts have: a place for each such group.
+6. A slice with a number behind it that is named n, used, count, at, from, dir_used, ncell or end.
+7. A function that takes a bool, or a place as a number.
+8. Of proofs/: answers in Answers.antt, lemmas that were copied for a place of the code (a name with
+   -- in it), and lines above 200 characters.
+A place is kept where a line `// Kept: ..` stands above its function, struct or loop or inside it; a
+group, where one stands at each of its functions (of twins, at each but the first).
 """
 import re
 import subprocess
 import sys
+import textwrap
 from collections import defaultdict
 
 
@@ -106,16 +128,63 @@ def shape(body):
 KEYWORDS = set("let mut if else while for in return match loop as true false T N break continue".split())
 
 
-def main():
-    args = sys.argv[1:]
-    listed = "-l" in args
-    only = args[args.index("-p") + 1] if "-p" in args else None
-    rest = [a for i, a in enumerate(args) if not a.startswith("-") and (i == 0 or args[i - 1] != "-p")]
-    commit = rest[0] if rest else None
+def kept_lines():
+    """Each line `// Kept: ..` of the work tree: its file, what it stands at, and the reason."""
+    for name, text in files_of(None):
+        if not name.endswith(".rt"):
+            continue
+        heads = [(m.start(), m.group(2)) for m in FN.finditer(text)]
+        heads += [(m.start(), m.group(1)) for m in re.finditer(r"^ *(?:pub(?:\([a-z]+\))? )?(?:struct|enum|trait) (\w+)", text, re.M)]
+        for m in re.finditer(r"^( *)// Kept: (.*)", text, re.M):
+            above = re.match(r"(?: *(?://|#\[)[^\n]*\n)*", text[m.start():]).end() + m.start()
+            at = max((h for h in heads if h[0] <= m.start()), default=(0, ""))
+            yield name, dict(heads).get(above, at[1]), m.group(2)
+
+
+POINTS = {
+    "1": "own Option, Result, flags, numbers",
+    "2": "twins",
+    "3": "loops by hand",
+    "4": "equality, conversion, printing by hand",
+    "5": "facts and parameters together",
+    "6": "a length beside a list",
+    "7": "switches",
+}
+
+
+def print_table(old):
+    """The table of the page: a row for each point."""
+    before, old_proofs = count(old)
+    now, proofs = count(None)
+    print("| point | found | changed | kept with a reason | still to do |")
+    print("| --- | --- | --- | --- | --- |")
+    for k, what in POINTS.items():
+        kept = sum(1 for _, kept in now[k] if kept)
+        found, left = len(before[k]), len(now[k])
+        print(f"| {k} {what} | {found} | {found - left} | {kept} | {left - kept} |")
+    for what, a, b in zip(("answers", "copied lemmas", "lines above 200 characters"), old_proofs, proofs):
+        print(f"| 8 proofs: {what} | {a:,} | {a - b:,} | {b:,} | |")
+
+
+def print_kept():
+    by_file = defaultdict(dict)
+    for name, at, reason in kept_lines():
+        by_file[name].setdefault(reason, []).append(f"`{at}`")
+    for i, (name, reasons) in enumerate(by_file.items()):
+        print(("\n" if i else "") + f"`{name}`:\n")
+        for reason, places in reasons.items():
+            print("\n".join(textwrap.wrap(f"{', '.join(places)}: {reason}", 100, initial_indent="- ", subsequent_indent="  ",
+                                          break_long_words=False, break_on_hyphens=False)))
+
+
+def count(commit):
+    """The places of each point, each with whether it is kept, and the three numbers of point 8."""
     found = {k: [] for k in "1 2 3 4 5 6 7 8".split()}
     fns = []
     answers = copies = long_lines = 0
-    for name, text in files_of(commit):
+    files = list(files_of(commit))
+    errors = {e for name, text in files if "/src/" in name for e in re.findall(r"Result<.*?, (\w+)>", text)}
+    for name, text in files:
         if "/specs/" in name:
             continue
         if name.endswith(".antt"):
@@ -132,7 +201,7 @@ def main():
             variants = [v.strip() for v in re.split(r",\s*(?![^({]*[)}])", re.sub(r"//[^\n]*", "", body).rstrip("}\n ")) if v.strip()]
             bare = [v for v in variants if re.fullmatch(r"\w+(\s*=\s*\d+)?", v)]
             refused = any(re.match(r"(Refused|Malformed|Unreadable)\b", v) for v in variants)
-            if refused or (len(variants) == 2 and len(bare) == 1):
+            if m.group(2) not in errors and (refused or (len(variants) == 2 and len(bare) == 1)):
                 line = text.count("\n", 0, m.start(2)) + 1
                 kept = "// Kept: " in m.group(1) or "// Kept: " in body
                 found["1"].append((f"{name}:{line} enum {m.group(2)}", kept))
@@ -149,9 +218,12 @@ def main():
             if "code (fault" in told or re.search(r"\b(place|kind|filter|opened|after): (u64|i32|isize)\b", f.head):
                 found["1"].append((f"{f} number", f.kept))
             # 3: loops that count by hand
-            for m in re.finditer(r"\bwhile\b(?! let)[^{]*\{", f.body):
-                loop = f.body[m.start():close(f.body, m.end() - 1)]
-                if re.search(r"\b(\w+) (\+=|-=) |\b(\w+) = \3 [+-] ", loop):
+            code = re.sub(r"//[^\n]*", lambda m: " " * len(m.group(0)), f.body)
+            for m in re.finditer(r"\bwhile\b(?! let)[^{]*\{", code):
+                loop = code[m.start():close(code, m.end() - 1)]
+                compared = re.search(r"[<>]|!=|==", m.group(0))
+                if compared and any(re.search(r"(?<![.\w])" + w + r"(\.\w+)* ([-+*/]?=) ", loop)
+                                    for w in re.findall(r"(?<![.\w])[a-z]\w*", m.group(0)[5:])):
                     before = f.body[:m.start()].rstrip().split("\n")[-1]
                     found["3"].append((f"{f} {' '.join(m.group(0).split())[:40]}",
                                        "// Kept: " in before or f.kept))
@@ -195,19 +267,28 @@ def main():
     for key, group in sorted(facts.items()):
         if len(group) >= 3:
             found["5"].append((f"{len(group)} contracts: {key[:100]}", all(g.kept for g in group)))
-    names = {"1": "own Option, Result, flags, numbers", "2": "twins", "3": "loops by hand",
-             "4": "equality, conversion, printing by hand", "5": "facts and parameters together",
-             "6": "a length beside a list", "7": "switches"}
-    for k, what in names.items():
+    return found, (answers, copies, long_lines)
+
+
+def main():
+    args = sys.argv[1:]
+    if "--kept" in args:
+        return print_kept()
+    if "--table" in args:
+        return print_table(args[args.index("--table") + 1])
+    only = args[args.index("-p") + 1] if "-p" in args else None
+    rest = [a for i, a in enumerate(args) if not a.startswith("-") and (i == 0 or args[i - 1] != "-p")]
+    found, proofs = count(rest[0] if rest else None)
+    for k, what in POINTS.items():
         if only and k != only:
             continue
         kept = sum(1 for _, kept in found[k] if kept)
         print(f"{k} {what}: {len(found[k])}, of which kept with a reason {kept}")
-        if listed:
+        if "-l" in args:
             for place, kept in found[k]:
                 print(f"    {'kept ' if kept else ''}{place}")
     if not only or only == "8":
-        print(f"8 proofs: {answers} answers, {copies} copied lemmas, {long_lines} lines above 200 characters")
+        print("8 proofs: {} answers, {} copied lemmas, {} lines above 200 characters".format(*proofs))
 
 
 if __name__ == "__main__":
