@@ -264,6 +264,13 @@ fn sheet_from(settings: Settings) -> Result<GridSearch, Refusal>
     Ok(sheet)
 }
 
+// The tolerance in force.
+pub fn tolerance_in_force(tolerance: Option<f64>) -> f64
+    ensures { result ≡ tolerance_of tolerance }
+{
+    tolerance.unwrap_or(GridSearch::TOLERANCE)
+}
+
 impl GridSearch {
     // What a setting is where it is left out.
     pub const NDIV: u64 = 100;
@@ -271,13 +278,6 @@ impl GridSearch {
     pub const TOLERANCE: f64 = 1e-4;
 
     pub const BORDER_TOL: f64 = 1e-2;
-
-    // The tolerance in force.
-    pub fn tolerance_in_force(self) -> f64
-        ensures { result ≡ tolerance_of self.tolerance }
-    {
-        self.tolerance.unwrap_or(Self::TOLERANCE)
-    }
 
     // The sheet of these corners and settings, or why there is none.
     pub fn new(

@@ -23,20 +23,34 @@ fn put_line(numbers: &[u64], text: &mut [u8; 70804]) -> usize
     out.at
 }
 
-// The line of a refusal, at the front of the buffer: returns its length.
+// The line of a number, at the front of the buffer: returns its length.
 #[tactic(auto, using(text::proofs::Laws::refusal_short))]
-pub fn put_refused(reason: Refusal, text: &mut [u8; 70804]) -> usize
-    ensures { Front (refusal (refusal_number reason ∷ [])) text.new result }
+pub fn put_number(number: u64, text: &mut [u8; 70804]) -> usize
+    ensures { Front (refusal (number ∷ [])) text.new result }
 {
-    put_line(&[u64::from(reason)], text)
+    put_line(&[number], text)
 }
 
 // The same where a line of the input belongs to it.
 #[tactic(auto, using(text::proofs::Laws::refusal_of_two))]
+pub fn put_number_at(number: u64, line: u64, text: &mut [u8; 70804]) -> usize
+    ensures { Front (refusal (number ∷ line ∷ [])) text.new result }
+{
+    put_line(&[number, line], text)
+}
+
+// The line of a refusal.
+pub fn put_refused(reason: Refusal, text: &mut [u8; 70804]) -> usize
+    ensures { Front (refusal (refusal_number reason ∷ [])) text.new result }
+{
+    put_number(u64::from(reason), text)
+}
+
+// The same where a line of the input belongs to it.
 pub fn put_refused_at(reason: Refusal, line: u64, text: &mut [u8; 70804]) -> usize
     ensures { Front (refusal (refusal_number reason ∷ line ∷ [])) text.new result }
 {
-    put_line(&[u64::from(reason), line], text)
+    put_number_at(u64::from(reason), line, text)
 }
 
 // The text of a library of at most 1,024 rows: a row takes at most 69 bytes of it and the summary 148, so that it fits.
@@ -64,6 +78,6 @@ pub fn put_outcome(
 {
     match answer {
         Ok(_) => put_library(sheet, library, text),
-        Err(reason) => put_refused(reason, text),
+        Err(refusal) => put_refused(refusal, text),
     }
 }

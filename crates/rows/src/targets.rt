@@ -107,7 +107,7 @@ impl Targets {
     {
         let mut targets = Targets::new();
         targets.look_at(sheet, x)?;
-        let tolerance = sheet.tolerance_in_force();
+        let tolerance = grid_search::tolerance_in_force(sheet.tolerance);
         for c in 0..geometry::corner_count(Dimension { n: sheet.ndim }) {
             targets.look_at(sheet, halo_corner(x, tolerance, c))?;
         }
