@@ -196,7 +196,7 @@ pub fn ceil(x: f64) -> f64
 }
 
 // The magnitude.
-// Kept: document 01 names it among its operations, and `abs_of` says what it gives; std says that by other words.
+// Kept: `within` and the distance of a plane are told by `abs_of`, and std tells its `abs` by other words.
 #[tactic(auto, using(crate::proofs::Choices::magnitude))]
 pub fn abs(x: f64) -> f64
     ensures { result ≡ abs_of x }

@@ -114,7 +114,7 @@ fn share(ndiv_long: u64, long: Longest, axis: usize, delta: f64) -> u64
 }
 
 // The divisions of a box whose longest axis has `ndiv_long` of them.
-// Kept: document 01 gives the corners as two points, and so are they in a sheet and in an index: no caller has them in one.
+// Kept: a sheet and an index have the corners as two fields, as gemlab has: a struct of both would be made at each call.
 pub fn num_divisions(ndim: Dimension, ndiv_long: u64, xmin: Position, xmax: Position) -> Divisions
     requires most { ndiv_long ≤ 1024 }
     ensures { result ≡ divisions_of (num_divisions ndiv_long (coords ndim.n xmin) (coords ndim.n xmax)) }
@@ -141,7 +141,7 @@ fn is_beyond(xmin: f64, xmax: f64, x: f64) -> bool
 }
 
 // Whether a position is outside the box on some axis.
-// Kept: document 01 gives the corners as two points, and so are they in a sheet and in an index: no caller has them in one.
+// Kept: a sheet and an index have the corners as two fields, as gemlab has: a struct of both would be made at each call.
 pub fn is_outside(ndim: Dimension, xmin: Position, xmax: Position, x: Position) -> bool
     ensures { result ≡ outside (coords ndim.n xmin) (coords ndim.n xmax) (coords ndim.n x) }
 {

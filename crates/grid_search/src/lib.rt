@@ -203,7 +203,8 @@ pub fn past_limits(tolerance: f64, border: f64) -> bool
 
 // 3: a float not finite or past its limit.
 fn out_of_limits(settings: Settings, tolerance: f64, border: f64) -> bool
-    ensures { result ≡ out_of_limits (coords settings.ndim.n settings.low) (coords settings.ndim.n settings.high) tolerance border }
+    ensures { result ≡ out_of_limits (coords settings.ndim.n settings.low) (coords settings.ndim.n settings.high)
+        tolerance border }
 {
     let low_ok = geometry::position_ok(settings.ndim, settings.low);
     let high_ok = geometry::position_ok(settings.ndim, settings.high);
@@ -212,7 +213,7 @@ fn out_of_limits(settings: Settings, tolerance: f64, border: f64) -> bool
 }
 
 // 7: the high corner is above the low one on every axis.
-// Kept: document 01 gives the corners as two points, and so are they in a sheet and in an index: no caller has them in one.
+// Kept: a sheet and an index have the corners as two fields, as gemlab has: a struct of both would be made at each call.
 pub fn is_above(ndim: Dimension, low: Position, high: Position) -> bool
     ensures { result ≡ in_order (coords ndim.n low) (coords ndim.n high) }
 {

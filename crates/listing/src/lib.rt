@@ -75,7 +75,8 @@ pub fn search_checked_on(
     filter: Filter,
     list: &mut [u64],
 ) -> Result<usize, Refusal>
-    ensures { Lists (listing of.entry.sheet (lent of.entry.library) (asked of.entry.sheet.ndim place) filter list.old) result list.new }
+    ensures { Lists (listing of.entry.sheet (lent of.entry.library) (asked of.entry.sheet.ndim place) filter list.old)
+        result list.new }
 {
     place_fault(of.sheet, of.library.used, place, filter)?;
     walk::list_on(of, place, filter, list)
@@ -93,7 +94,8 @@ pub fn search_checked_on_place(
     filter: Filter,
     list: &mut [u64],
 ) -> Result<usize, Refusal>
-    ensures { Lists (listing of.entry.sheet (lent of.entry.library) (asked_of place a.now b.now number) filter list.old) result list.new }
+    ensures { Lists (listing of.entry.sheet (lent of.entry.library) (asked_of place a.now b.now number) filter list.old)
+        result list.new }
 {
     let Some(on) = asked::made(place, a, b, number) else {
         return Err(Refusal::Unfit);

@@ -217,7 +217,8 @@ pub(crate) fn list_on(
     list: &mut [u64],
 ) -> Result<usize, Refusal>
     requires { Known of.sheet (lent of.library) place filter }
-    ensures { Out (ids_of (is_on of.entry.sheet (asked of.entry.sheet.ndim place) filter) (table (lent of.entry.library))) list.old result list.new }
+    ensures { Out (ids_of (is_on of.entry.sheet (asked of.entry.sheet.ndim place) filter) (table (lent of.entry.library)))
+        list.old result list.new }
 {
     let walk = Walk {
         sheet: of.sheet,

@@ -185,7 +185,6 @@ pub fn call_fault(sheet: GridSearch, library: Library, x: &[f64]) -> Result<(), 
 
 // Judges an insertion into a library that passes 24 and 13, and finds the containers that the mark goes into: 2, 3, 11, 17 and
 // 12, which is judged before anything is written.
-// Kept: sheet and library are lent apart, and the library is written after this: a struct of both would end before that.
 pub fn judge_mark(
     sheet: GridSearch,
     library: Library,

@@ -23,24 +23,28 @@ pub returns-then-places_after-before-clause-stores : goal.returns-then-places_af
 returns-then-places_after-before-clause-stores c =
     let P = λ (d : Directory). PlacesAfter (take c.args.directory.now.used d.keys) c.args.into.now c.places_after.result in
     let Q = λ (d : Directory). length d.keys < c.places_after.result in
-    places-full c.args.mark.id.0 c.args.mark.at c.args.into.now _ _ c.requires (subst P c.as_directory-before.ensures c.places_after.ensures) (subst Q c.as_directory-before.ensures c.if-places_after-before.true)
+    places-full c.args.mark.id.0 c.args.mark.at c.args.into.now _ _ c.requires
+    (subst P c.as_directory-before.ensures c.places_after.ensures) (subst Q c.as_directory-before.ensures c.if-places_after-before.true)
 
 pub store_all-requires : goal.store_all-requires
 store_all-requires c =
     let P = λ (d : Directory). PlacesAfter (take c.args.directory.now.used d.keys) c.args.into.now c.places_after.result in
     let Q = λ (d : Directory). c.places_after.result ≤ length d.keys in
-    takes_all c.args.mark.id.0 c.args.mark.at c.args.into.now _ _ c.requires (subst P c.as_directory-before.ensures c.places_after.ensures) (subst Q c.as_directory-before.ensures c.if-places_after-before.false)
+    takes_all c.args.mark.id.0 c.args.mark.at c.args.into.now _ _ c.requires
+    (subst P c.as_directory-before.ensures c.places_after.ensures) (subst Q c.as_directory-before.ensures c.if-places_after-before.false)
 
 pub truncate-requires : goal.truncate-requires
 truncate-requires c =
     let P = λ (d : Directory). PlacesAfter (take c.args.directory.now.used d.keys) c.args.into.now c.places_after.result in
     let Q = λ (d : Directory). c.places_after.result ≤ length d.keys in
-    places-held c.args.mark.id.0 c.args.mark.at c.args.into.now _ _ c.requires (subst P c.as_directory-before.ensures c.places_after.ensures) (subst Q c.as_directory-before.ensures c.if-places_after-before.false)
+    places-held c.args.mark.id.0 c.args.mark.at c.args.into.now _ _ c.requires
+    (subst P c.as_directory-before.ensures c.places_after.ensures) (subst Q c.as_directory-before.ensures c.if-places_after-before.false)
     c.store_all.ensures.stores
 
 pub returns-clause-stores : goal.returns-clause-stores
 returns-clause-stores c =
     let P = λ (d : Directory). PlacesAfter (take c.args.directory.now.used d.keys) c.args.into.now c.places_after.result in
     let Q = λ (d : Directory). c.places_after.result ≤ length d.keys in
-    places_stored c.args.mark.id.0 c.args.mark.at c.args.into.now _ _ c.requires (subst P c.as_directory-before.ensures c.places_after.ensures) (subst Q c.as_directory-before.ensures c.if-places_after-before.false)
+    places_stored c.args.mark.id.0 c.args.mark.at c.args.into.now _ _ c.requires
+    (subst P c.as_directory-before.ensures c.places_after.ensures) (subst Q c.as_directory-before.ensures c.if-places_after-before.false)
     c.store_all.ensures.stores c.truncate.ensures.cuts
