@@ -139,7 +139,7 @@ pub fn search_mesh(
 }
 
 // The same over plain slices.
-// Kept: what it takes is gemlab's and C's, plain slices one by one; `search_mesh` is over the structs.
+// Kept: README promises it over plain slices, for callers that have no structs; `search_mesh` is over the structs.
 pub fn search(
     grid: GridCells,
     coords: &[f64],

@@ -129,7 +129,7 @@ impl GridCells {
     }
 
     // The index of a mesh in plain slices, by settings as given: `build`, with its lists.
-    // Kept: what it takes is gemlab's and C's, plain slices and settings one by one; `build` and `in_force` are over the structs.
+    // Kept: README promises it over plain slices, for callers that have no structs; `build` and `in_force` are over the structs.
     pub fn new(
         ndim: usize,
         coords: &[f64],

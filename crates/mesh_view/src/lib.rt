@@ -40,7 +40,7 @@ pub fn search_in(
 }
 
 // The index of a mesh, built through its view: `GridCells::new` for callers that have no view.
-// Kept: what it takes is gemlab's and C's, plain slices and settings one by one; `grid_cells` is over the structs.
+// Kept: C hands over plain slices and one setting after another, and `capi` calls this; `grid_cells` is over the structs.
 pub fn build(
     ndim: usize,
     coords: &[f64],
@@ -67,7 +67,7 @@ pub fn build(
 }
 
 // The cell at a position, found through the mesh's view: `cell_search::search` for callers that have no view.
-// Kept: what it takes is gemlab's and C's, plain slices one by one; `search_in` is over the structs.
+// Kept: C hands over plain slices, and `capi` calls this; `search_in` is over the structs.
 pub fn search(
     grid: GridCells,
     coords: &[f64],
