@@ -38,6 +38,7 @@ pub enum ReadError {
 }
 
 // Why standard input is not held: it has more bytes than a program takes; or it cannot be read.
+// Kept: it is the error of a Result, which has the number of bytes.
 #[derive(Clone, Copy)]
 pub enum InputError {
     Longer,
@@ -54,10 +55,7 @@ fn all_came(after: Result<usize, ReadError>) -> bool
 
 // The sheet of a file: 13 where the bytes are not all of it, and else what they say.
 #[tactic(auto, unfolding(crate::specs::Files::content, loading::specs::Loading::sheet_in))]
-pub fn sheet_of_file(
-    bytes: &[u8],
-    after: Result<usize, ReadError>,
-) -> Result<GridSearch, Refusal>
+pub fn sheet_of_file(bytes: &[u8], after: Result<usize, ReadError>) -> Result<GridSearch, Refusal>
     ensures { made result ≡ sheet_in (content bytes.now after) }
 {
     if !all_came(after) {

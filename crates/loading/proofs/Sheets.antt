@@ -25,9 +25,9 @@ module _ (bytes : List ℕ) where
   pub in_halves : (halves : List (List ℕ)) → length bytes ≡ 64 → halves ≡ first_chunks 32 (length bytes / 32) bytes
       → (record_at (get_or halves 0 []) 0 ≡ record_at bytes 0) × (record_at (get_or halves 1 []) 0 ≡ record_at bytes 32)
   in_halves halves e h =
-      let two : halves ≡ take 32 bytes ∷ take 32 (drop 32 bytes) ∷ [] = h ∙ ap (λ (k : ℕ). first_chunks 32 (k / 32) bytes) e in
-      ( ap (λ (p : List (List ℕ)). record_at (get_or p 0 []) 0) two ∙ cut_out bytes 0
-      , ap (λ (p : List (List ℕ)). record_at (get_or p 1 []) 0) two ∙ cut_out bytes 32
+      let two : halves ≡ take 32 bytes ∷ take 32 (drop 32 bytes) ∷ [] = h ∙ ap (λ (k : ℕ). first_chunks 32 (k / 32) bytes) e in (
+        ap (λ (p : List (List ℕ)). record_at (get_or p 0 []) 0) two ∙ cut_out bytes 0,
+        ap (λ (p : List (List ℕ)). record_at (get_or p 1 []) 0) two ∙ cut_out bytes 32,
       )
 
   pub not-two : (length bytes ≡ 64 → ⊥) → refused 13 ≡ sheet_of_records bytes

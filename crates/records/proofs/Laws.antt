@@ -63,7 +63,7 @@ pub of-eights : (l : List ℕ) (parts : List (List ℕ)) (n : ℕ) (x y z : Floa
 unfolding record_at float_at
 of-eights l parts n x y z len p en ex ey ez =
     let four : parts ≡ take 8 l ∷ take 8 (drop 8 l) ∷ take 8 (drop 16 l) ∷ take 8 (drop 24 l) ∷ [] =
-        p ∙ ap (λ (k : ℕ). first_chunks 8 (k / 8) l) len ∙ eights l
+    p ∙ ap (λ (k : ℕ). first_chunks 8 (k / 8) l) len ∙ eights l
     in
     rw (en, ex, ey, ez, four, in_part l 0 0 0, in_part l 8 0 0, in_part l 16 0 0, in_part l 24 0 0) refl
 

@@ -24,11 +24,7 @@ fn came(input: Result<usize, InputError>, bytes: &[u8; 131072]) -> usize
 }
 
 // What is printed of what reading standard input answered, and of the bytes that came.
-fn put_input(
-    input: Result<usize, InputError>,
-    bytes: &[u8],
-    text: &mut [u8; 70804],
-) -> usize
+fn put_input(input: Result<usize, InputError>, bytes: &[u8], text: &mut [u8; 70804]) -> usize
     ensures { Front (input_text (input_answer input) bytes.now) text.new result }
 {
     match input {

@@ -18,6 +18,7 @@ use mark_lists::MarkListsMut;
 use records::Record;
 
 // Why an import is turned away: at the first malformed line, counted from 1, or as another call is.
+// Kept: it is the error of a Result; a malformed line has its number beside the refusal, and no other refusal has one.
 #[derive(Clone, Copy, Debug, PartialEq, Eq)]
 pub enum ImportError {
     Malformed(usize),

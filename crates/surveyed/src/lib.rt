@@ -46,6 +46,7 @@ fn lowest(values: &[f64]) -> f64
 }
 
 // The greatest of values: 0 of none.
+// Kept: what `lowest` and `highest` share is `extreme`, and each hands on the choice that is its own.
 fn highest(values: &[f64]) -> f64
     ensures { result ≡ highest_of values.now }
 {
