@@ -1,5 +1,4 @@
 -- The number that a result tells to C is that of the answer which it stands for. Assumes nothing.
-use Prim.Native.Nat.{ℕ}
 use mathlib.Core.Path.{◌≡◌, refl}
 use Rattle.std.specs.Prelude.{Result, Ok, Err}
 use Rattle.basics.specs.declared.Refusal.{Refusal}

@@ -10,8 +10,8 @@ use basics::Refusal;
 use mark_lists::{MarkLists, MarkListsMut};
 use survey_import::ImportError;
 
-// Writes the marks of a text and their count. Returns 0, or the first of 24, 13, 27 and 12 that applies, and then writes nothing
-// but, where it is 27, the first bad line, counted from 1.
+// Writes the marks of a text and their count; what that held is not read. Returns 0, or the first of 24, 13, 27 and 12 that
+// applies, and then writes nothing but, where it is 27, the first bad line, counted from 1.
 pub fn gemlab_survey_import(
     text: &[u8],
     ids: &mut [u64],

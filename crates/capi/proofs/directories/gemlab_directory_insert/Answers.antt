@@ -10,10 +10,11 @@ pub returns : goal.returns
 returns c =
     let g = c.insert-answer.ensures.gives in
     let told : written (inserted c.insert-answer.result) c.args.used.now ≡ c.insert-answer.new.library.used =
-        filing_told _ _ _ _ _ _ _ _ g in
+    filing_told _ _ _ _ _ _ _ _ g in
     let left : c.if-is_ok.dir_used ≡ c.insert-answer.new.directory.used =
-        elim c.if-is_ok.branch [
-          | then-is_ok w ↦ w.dir_used-is
-          | else-is_ok w ↦ w.dir_used-is ∙ sym (filing_left _ _ _ _ _ _ _ g (sym c.is_ok.ensures.value ∙ w.if-is_ok.false)).1
-        ] in
+    elim c.if-is_ok.branch [
+      | then-is_ok w ↦ w.dir_used-is
+      | else-is_ok w ↦ let refused = sym c.is_ok.ensures.value ∙ w.if-is_ok.false in
+          w.dir_used-is ∙ sym (filing_left _ _ _ _ _ _ _ g refused).1
+    ] in
     search rules

@@ -8,5 +8,5 @@ use Rattle.capi.proofs.library.gemlab_grid_search_insert.Goals as goal
 pub returns : goal.returns
 returns c =
     let told : written (inserted c.insert-answer.result) c.args.used.now ≡ c.insert-answer.new.library.used =
-        insertion_told _ _ _ _ _ _ c.insert-answer.ensures.gives in
+    insertion_told _ _ _ _ _ _ c.insert-answer.ensures.gives in
     search rules
