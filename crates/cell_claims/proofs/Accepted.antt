@@ -76,7 +76,8 @@ success-is : {A : Type 0} (g h : A) → ◌≡◌ {A = Answer A} (success g) (su
 success-is g h e = cc
 
 -- what holds of the index made by a build that was not refused holds of every index that a build gives
-module _ (n : ℕ) (m : Mesh) (t : Settings) (l : IndexLists) (P : GridCells → IndexLists → Type 0) (of-made : Accepted n m t l → P (make n (measure n m t) t).grid (settle_build none (make n (measure n m t) t) l).lists) where
+module _ (n : ℕ) (m : Mesh) (t : Settings) (l : IndexLists) (P : GridCells → IndexLists → Type 0)
+    (of-made : Accepted n m t l → P (make n (measure n m t) t).grid (settle_build none (make n (measure n m t) t) l).lists) where
   pub of_built : (g : GridCells) → (build n m t l).answer ≡ success g → P g (build n m t l).lists
   unfolding build settle_build
   of_built g e = go (fault (build_tests n m t l)) refl e

@@ -117,8 +117,12 @@ none a b c h = omega (arith, zero-mul c)
 
 level-less : (s : Bool) (A : ℕ) (t : Bool) (B C : ℕ) → 0 < C → level t B s A ≡ true → Upto 0 (sum binary64 s A (not t) B C)
 unfolding sum
-level-less true A true B C P h = let e = eqb-true B A (and_left (eqb B A) _ h) in rw (le-ltb A B (omega (arith, e))) (round-upto (true && ltb B A) (A - B) C 0 P zero-le (none A B C (omega (arith, e))))
-level-less false A false B C P h = let e = eqb-true B A (and_left (eqb B A) _ h) in rw (le-ltb A B (omega (arith, e))) (round-upto (false && ltb B A) (A - B) C 0 P zero-le (none A B C (omega (arith, e))))
+level-less true A true B C P h = let e =
+    eqb-true B A (and_left (eqb B A) _ h)
+    in rw (le-ltb A B (omega (arith, e))) (round-upto (true && ltb B A) (A - B) C 0 P zero-le (none A B C (omega (arith, e))))
+level-less false A false B C P h = let e =
+    eqb-true B A (and_left (eqb B A) _ h)
+    in rw (le-ltb A B (omega (arith, e))) (round-upto (false && ltb B A) (A - B) C 0 P zero-le (none A B C (omega (arith, e))))
 level-less true A false B C P h =
     let e = eqb-true B A (and_left (eqb B A) (eqb B 0) h) in
     let z = eqb-true B 0 (and_right (eqb B A) (eqb B 0) h) in
@@ -170,7 +174,9 @@ rounded-up (fin false m e) k h u =
 pub above_part : (s : Bool) (num den k : ℕ) → 0 < den → k ≤ 2 ^ 53 → truncate (ceil_of (round binary64 s num den)) ≡ suc k → k * den < num
 above_part s num den k D K e =
     by_test (ltb (k * den) num) (λ t. ltb-true (k * den) num t)
-    (λ t. absurd (not-le_of_lt (omega arith) (subst (λ (z : ℕ). z ≤ k) e (rounded-up (round binary64 s num den) k (round-fits binary64 s num den) (round-upto s num den k D K (ltb-false (k * den) num t))))))
+    (λ t. absurd (not-le_of_lt (omega arith)
+    (subst (λ (z : ℕ). z ≤ k) e
+    (rounded-up (round binary64 s num den) k (round-fits binary64 s num den) (round-upto s num den k D K (ltb-false (k * den) num t))))))
 
 -- a product whose exact value is at most w
 times_most : (p : ℕ) (f : ℤ) (y : Float) (n w : ℕ) → w ≤ 2 ^ 53 → p * up f * n ≤ w * down f → Upto n y → Upto w (fin false p f ⊗ y)
@@ -204,7 +210,9 @@ reach (fin s m e) nan n u v h q a b = absurd v
 reach (fin s m e) (inf t) n u v h q a b = absurd v
 reach (fin s m e) (fin true p f) n u v h q a b = absurd (no_minus p f h)
 reach (fin s m e) (fin false p f) zero u v h q a b = absurd (omega arith)
-reach (fin s m e) (fin false p f) (suc zero) u v h q a b = upto_more 2099200 4198400 (fin false p f ⊗ of_nat 1) (lit≤ tt) (mul-upto 2099200 1 (lit≤ tt) (fin false p f) (of_nat 1) v (nat_upto 1 (lit≤ tt)))
+reach (fin s m e) (fin false p f) (suc zero) u v h q a b =
+    upto_more 2099200 4198400 (fin false p f ⊗ of_nat 1) (lit≤ tt)
+    (mul-upto 2099200 1 (lit≤ tt) (fin false p f) (of_nat 1) v (nat_upto 1 (lit≤ tt)))
 reach (fin s m e) (fin false zero f) (suc (suc k)) u v h q a b = absurd (none_left (down f) (up f) (down_pos f) (le_cross 1 (negsuc 18) 0 f h))
   where
     none_left : (d c : ℕ) → 0 < d → 1 * 1 * d ≤ 0 * c * 2 ^ 19 → ⊥

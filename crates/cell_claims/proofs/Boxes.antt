@@ -122,7 +122,8 @@ ordered_zip (a ∷ x) (b ∷ y) (c ∷ q) h k l o =
     both (le_join (min_of a c) a (max_of b c) (min_left a c (number a p.0) nc) (le_join a b (max_of b c) t.0 (max_left b c (number b r.0) nc)))
     (ordered_zip x y q p.1 r.1 s.1 t.1)
 
-ordered-fold : (n : ℕ) (x y : List Float) (ps : List (List Float)) → Point n x → Point n y → Each (Point n) ps → ordered x y ≡ true → ordered (fold_from (zip_with min_of) x ps) (fold_from (zip_with max_of) y ps) ≡ true
+ordered-fold : (n : ℕ) (x y : List Float) (ps : List (List Float)) → Point n x → Point n y → Each (Point n) ps → ordered x y ≡ true
+    → ordered (fold_from (zip_with min_of) x ps) (fold_from (zip_with max_of) y ps) ≡ true
 unfolding fold_from
 ordered-fold n x y [] h k l o = o
 ordered-fold n x y (q ∷ ps) h k l o =

@@ -119,7 +119,8 @@ unfolding of_int
 nat_unsigned n h = value_unsigned (of_nat n) n 1 (round_whole binary64 false n h)
 
 -- the low corner is not above the high one
-ordered_covered : (side : Float) (xmin : List Float) (ns : List ℕ) → Sided side → all (fits binary64) xmin ≡ true → AllUpto 1049600 xmin → all division ns ≡ true → ordered xmin (covered_of side xmin ns) ≡ true
+ordered_covered : (side : Float) (xmin : List Float) (ns : List ℕ) → Sided side → all (fits binary64) xmin ≡ true
+    → AllUpto 1049600 xmin → all division ns ≡ true → ordered xmin (covered_of side xmin ns) ≡ true
 unfolding ordered covered_of zip_with all
 ordered_covered side [] ns s f z d = refl
 ordered_covered side (x ∷ xs) [] s f z d = refl
@@ -131,7 +132,8 @@ ordered_covered side (x ∷ xs) (n ∷ ns) s f z d =
     let fn = upto-finite n (of_nat n) (nat_upto n N) in
     let w = mul-upto 2099200 1024 (lit≤ tt) side (of_nat n) s.most (upto_more n 1024 (of_nat n) r.most (nat_upto n N)) in
     both
-    (grown x (side ⊗ of_nat n) (is-test (fits binary64 x) p.0) (upto-finite 1049600 x z.0) (upto-finite 2149580800 (side ⊗ of_nat n) w) (mul_unsigned side (of_nat n) fs fn (from-least side fs s.least) (nat_unsigned n N)))
+    (grown x (side ⊗ of_nat n) (is-test (fits binary64 x) p.0) (upto-finite 1049600 x z.0) (upto-finite 2149580800 (side ⊗ of_nat n) w)
+    (mul_unsigned side (of_nat n) fs fn (from-least side fs s.least) (nat_unsigned n N)))
     (ordered_covered side xs ns s p.1 z.1 (rest_of n ns d))
   where
     is-test : (b : Bool) → b ≡ true → T b
@@ -195,4 +197,6 @@ module _ (g : GridCells) (n : ℕ) (border side : Float) (low high : List Float)
       let xm : coords g.ndim g.xmax ≡ covered_of side xs ns = rw p.ndim (coords_of n (covered_of side xs ns) g.xmax axes (covered_length side xs ns (ns_length ∙ sym xs-length) ∙ xs-length) p.xmax) in
       rw (framed.divisions, framed.xmin, xm, p.side)
       (both (both s.least (side_most side s.most))
-      (both d (both (sized_limit 1049600 xs (lit≤ tt) x) (both (sized_limit 5248000 (covered_of side xs ns) (lit≤ tt) c) (ordered_covered side xs ns s (lowered-fits border low (all-fits low a.plain)) x d)))))
+      (both d (both (sized_limit 1049600 xs (lit≤ tt) x)
+      (both (sized_limit 5248000 (covered_of side xs ns) (lit≤ tt) c)
+      (ordered_covered side xs ns s (lowered-fits border low (all-fits low a.plain)) x d)))))

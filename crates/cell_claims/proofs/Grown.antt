@@ -95,7 +95,8 @@ grown (fin true m e) (fin false n d) h f g u =
     let B = n * up d * down e in
     let C = down e * down d in
     let P = mul-pos (down_pos e) (down_pos d) in
-    let up-from-zero : (a : ℕ) → le (fin true m e) (round binary64 false a C) ≡ true = λ a. le_join (fin true m e) zero_f (round binary64 false a C) (minus_first m e 0 (pos 0)) (round_from_zero a C P) in
+    let up-from-zero : (a : ℕ) → le (fin true m e) (round binary64 false a C) ≡ true =
+    λ a. le_join (fin true m e) zero_f (round binary64 false a C) (minus_first m e 0 (pos 0)) (round_from_zero a C P) in
     by_test (ltb A B)
     (λ l. rw l (up-from-zero (B - A)))
     (λ l.

@@ -123,7 +123,9 @@ module _ (n : ℕ) (m : Mesh) (t : Settings) (l : IndexLists) (a : Accepted n m 
       let p = is_filed w.apart w.limit in
       cells_filed (good_slot_lem) g p 0 w.all-boxes []
       (λ i h j.
-      each_both (Good n) (λ (b : Box). (p b && box_exceeds g b) ≡ false) (λ (b : Box). p b ≡ true → Each (λ (x : List Float). good_slot_lem (record { key = cell_key g x; id = i }) ≡ true) (box_corners b)) w.all-boxes
+      each_both (Good n) (λ (b : Box). (p b && box_exceeds g b) ≡ false)
+      (λ (b : Box). p b ≡ true → Each (λ (x : List Float). good_slot_lem (record { key = cell_key g x; id = i }) ≡ true) (box_corners b))
+      w.all-boxes
       (λ b good none_over is.
       each_with (λ (x : List Float). ltb (cell_key g x) (containers (counts n k.grid.ndiv)) ≡ true) (λ (x : List Float). good_slot_lem (record { key = cell_key g x; id = i }) ≡ true) (box_corners b)
       (λ x e. both e (lt-ltb i (cell_count n m) (omega (arith, j, count))))

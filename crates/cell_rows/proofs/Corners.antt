@@ -62,7 +62,9 @@ unfolding cell_key cell_exceeds
 key-small g x d e =
     let ns = counts g.ndim g.ndiv in
     (lt_of_lt_of_le
-    (key_below ns g.side_length (coords g.ndim g.xmin) (coords g.ndim x) (for_axes (λ n. length (ratios g.side_length (coords n g.xmin) (coords n x)) ≡ length (counts n g.ndiv)) refl refl g.ndim d.axes) d.divisions e)
+    (key_below ns g.side_length (coords g.ndim g.xmin) (coords g.ndim x)
+    (for_axes (λ n. length (ratios g.side_length (coords n g.xmin) (coords n x)) ≡ length (counts n g.ndiv)) refl refl g.ndim d.axes)
+    d.divisions e)
     (few-containers g.ndim d.axes g.ndiv (divisions_of ns) refl d.divisions))
 
 all_append : (p : ℕ → Bool) (xs ys : List ℕ) → all p xs ≡ true → all p ys ≡ true → all p (xs ++ ys) ≡ true
@@ -107,7 +109,8 @@ take-corner (suc n) [] his c = refl
 take-corner (suc n) (a ∷ los) [] c = refl
 take-corner (suc n) (a ∷ los) (b ∷ his) c = rw (take-corner n los his (c / 2))
 
-pub corner-axes : (n : ℕ) (lo hi : Position) (c : ℕ) (x y z : Float) → x ∷ y ∷ z ∷ [] ≡ box_corner (coords 3 lo) (coords 3 hi) c → coords n (record { x = x; y = y; z = z }) ≡ box_corner (coords n lo) (coords n hi) c
+pub corner-axes : (n : ℕ) (lo hi : Position) (c : ℕ) (x y z : Float) → x ∷ y ∷ z ∷ [] ≡ box_corner (coords 3 lo) (coords 3 hi) c
+    → coords n (record { x = x; y = y; z = z }) ≡ box_corner (coords n lo) (coords n hi) c
 corner-axes n lo hi c x y z e = ap (take n) e ∙ take-corner n (coords 3 lo) (coords 3 hi) c
 
 -- what is known once the corners before number c are passed

@@ -67,7 +67,8 @@ small-enter p (q ∷ qs) h s = go (small-enter p qs h (and_right (small q) (all 
         (λ e. by_test (same q p) (λ f. rw (e, f) s) (λ f. rw (e, f) (both (lt-ltb p.id 65536 h) s)))
 
 module _ (g : Containers) where
-  packed_file : (c : ℕ) (xs : List (List Float)) (rows : List Slot) → c < 65536 → all small rows ≡ true → map packed (file_cell g c xs rows) ≡ entered (map (pack c) (map (cell_key g) xs)) (map packed rows)
+  packed_file : (c : ℕ) (xs : List (List Float)) (rows : List Slot) → c < 65536 → all small rows ≡ true
+      → map packed (file_cell g c xs rows) ≡ entered (map (pack c) (map (cell_key g) xs)) (map packed rows)
   unfolding file_cell entered
   packed_file c [] rows h s = refl
   packed_file c (x ∷ xs) rows h s =
@@ -103,7 +104,17 @@ count-pack c k [] = omega arith
 count-pack c k (j ∷ js) = go (count-pack c k js) (which (eqb j k))
   where
     go : count k js ≤ count (pack c k) (map (pack c) js) → (eqb j k ≡ true) ⊎ (eqb j k ≡ false) → count k (j ∷ js) ≤ count (pack c k) (pack c j ∷ map (pack c) js)
-    go ih (inl f) = let e : j ≡ k = eqb-true j k f in omega (arith, ih, count-cons k j js, count-cons (pack c k) (pack c j) (map (pack c) js), ap (hit k) e, hit_same k, ap (λ (i : ℕ). hit (pack c k) (pack c i)) e, hit_same (pack c k))
+    go ih (inl f) = let e : j ≡ k =
+        eqb-true j k f in omega (
+          arith,
+          ih,
+          count-cons k j js,
+          count-cons (pack c k) (pack c j) (map (pack c) js),
+          ap (hit k) e,
+          hit_same k,
+          ap (λ (i : ℕ). hit (pack c k) (pack c i)) e,
+          hit_same (pack c k),
+        )
     go ih (inr f) = omega (arith, ih, count-cons k j js, count-cons (pack c k) (pack c j) (map (pack c) js), hit_other k j (eqb-false j k f))
 
 -- keys that come more than once make no difference
@@ -129,7 +140,15 @@ join-few k seen h v =
     by_test (has k seen) (λ e. rw e (h v))
     (λ e.
     by_test (eqb k v)
-    (λ f. let i : k ≡ v = eqb-true k v f in rw e (omega (arith, count-append v seen (k ∷ []), count-cons v k [], ap (hit v) i, hit_same v, subst (λ (w : ℕ). count w seen ≡ 0) i (count_hasn't k seen e))))
+    (λ f. let i : k ≡ v = eqb-true k v f
+    in rw e (omega (
+      arith,
+      count-append v seen (k ∷ []),
+      count-cons v k [],
+      ap (hit v) i,
+      hit_same v,
+      subst (λ (w : ℕ). count w seen ≡ 0) i (count_hasn't k seen e),
+    )))
     (λ f. rw e (omega (arith, count-append v seen (k ∷ []), count-cons v k [], hit_other v k (eqb-false k v f), h v))))
 
 once-few : (ks seen : List ℕ) → ((v : ℕ) → count v seen ≤ 1) → (v : ℕ) → count v (once seen ks) ≤ 1
@@ -152,7 +171,16 @@ count_cell c v (k ∷ ks) h =
     by_test (eqb (pack c k) v)
     (λ e.
     let i : k ≡ packed_key v = omega (arith, eqb-true (pack c k) v e) in
-    omega (arith, count-cons v (pack c k) (map (pack c) ks), ap (hit v) (eqb-true (pack c k) v e), hit_same v, count-cons (packed_key v) k ks, ap (hit (packed_key v)) i, hit_same (packed_key v), count_cell c v ks h))
+    omega (
+      arith,
+      count-cons v (pack c k) (map (pack c) ks),
+      ap (hit v) (eqb-true (pack c k) v e),
+      hit_same v,
+      count-cons (packed_key v) k ks,
+      ap (hit (packed_key v)) i,
+      hit_same (packed_key v),
+      count_cell c v ks h,
+    ))
     (λ e. omega (arith, count-cons v (pack c k) (map (pack c) ks), hit_other v (pack c k) (eqb-false (pack c k) v e), count-cons (packed_key v) k ks, count_cell c v ks h))
 
 module _ (g : Containers) (p : Box → Bool) where

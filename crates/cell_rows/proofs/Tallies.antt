@@ -229,7 +229,9 @@ module _ {n : ℕ} {m : Mesh} {q : Box → Bool} {l₀ : List ℕ} (room : lengt
 
       pub marking_large : {l' : List ℕ} → q b ≡ true → l' ≡ set l k c → Marking n m q (c + 1) (k + 1) l₀ l'
       marking_large t v =
-          let at : get_or (numbered q 0 (boxes n m)) k 0 ≡ c = ap (λ (j : ℕ). get_or (numbered q 0 (boxes n m)) j 0) (sym (add-zero k)) ∙ sym (get_or-drop k (numbered q 0 (boxes n m)) 0 0) ∙ ap (λ (x : List ℕ). get_or x 0 0) (next-large t) in
+          let at : get_or (numbered q 0 (boxes n m)) k 0 ≡ c =
+          ap (λ (j : ℕ). get_or (numbered q 0 (boxes n m)) j 0) (sym (add-zero k))
+          ∙ sym (get_or-drop k (numbered q 0 (boxes n m)) 0 0) ∙ ap (λ (x : List ℕ). get_or x 0 0) (next-large t) in
           record {
             inside = omega (arith, one_more t);
             rest = sym (drop-drop 1 k (numbered q 0 (boxes n m))) ∙ ap (drop 1) (next-large t);

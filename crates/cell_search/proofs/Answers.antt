@@ -93,7 +93,8 @@ module _ (g : GridCells) (m : Mesh) (l : IndexLists) (zeta x : List Float) where
     after_index = fault-right (index_tests g m l) (asked_tests g m.points (length zeta) x) e
 
     -- 25, 2, 3, 11, 17
-    pub refuse-asked : {n : ℕ} → refused n ≡ answer (fault (asked_tests g m.points (length zeta) x)) (cell_key (containers_of g) x) → record { answer = refused n; zeta = zeta } ≡ cell_search g m l zeta x
+    pub refuse-asked : {n : ℕ} → refused n ≡ answer (fault (asked_tests g m.points (length zeta) x)) (cell_key (containers_of g) x)
+        → record { answer = refused n; zeta = zeta } ≡ cell_search g m l zeta x
     refuse-asked {n} f = turned_away n (after_index ∙ refused_by (fault (asked_tests g m.points (length zeta) x)) n (cell_key (containers_of g) x) f)
 
     module _ {k : ℕ} (f : success k ≡ answer (fault (asked_tests g m.points (length zeta) x)) (cell_key (containers_of g) x)) where

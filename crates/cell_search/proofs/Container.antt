@@ -148,7 +148,9 @@ pub part_numbers : (n : ℕ) (m : Mesh) (cells : List ℕ) (used from to : ℕ) 
 part_numbers n m cells used from to h below i k =
     let long : i < to - from = omega (arith, rw (length-take, length-drop) at k) in
     let within : from + i < length cells = omega (arith, rw (length-take, length-drop) at k) in
-    let e : get_or (slice_range cells from to) i 0 ≡ get_or (take used cells) (from + i) 0 = get_or-take (to - from) (drop from cells) i 0 long ∙ get_or-drop from cells i 0 ∙ sym (get_or-take used cells (from + i) 0 (omega arith)) in
+    let e : get_or (slice_range cells from to) i 0 ≡ get_or (take used cells) (from + i) 0 =
+    get_or-take (to - from) (drop from cells) i 0 long ∙ get_or-drop from cells i 0
+    ∙ sym (get_or-take used cells (from + i) 0 (omega arith)) in
     rw e (below (from + i) (omega (arith, length-take used cells)))
 
 -- ---- one list after another

@@ -221,7 +221,9 @@ module _ (k n used : ℕ) (es : List Entry) (len : length es ≡ used) where
 
     pub old_counts : (l : List ℕ) → map count_of es ≡ take used l → used ≤ length l → over (map count_of (entered k n es)) l ≡ set l place (get_or l place 0 + 1)
     old_counts l m r =
-        let here : suc (get_or (map count_of es) place 0) ≡ get_or l place 0 + 1 = ap suc (ap (λ (a : List ℕ). get_or a place 0) m ∙ get_or-take used l place 0 place_there) ∙ sym (add-one (get_or l place 0)) in
+        let here : suc (get_or (map count_of es) place 0) ≡ get_or l place 0 + 1 =
+        ap suc (ap (λ (a : List ℕ). get_or a place 0) m ∙ get_or-take used l place 0 place_there)
+        ∙ sym (add-one (get_or l place 0)) in
         field_old count_of l m
         ∙ ap₂ (λ (a : List ℕ) (w : ℕ). (take place (take used l) ++ w ∷ a) ++ drop used l) (counts-later (drop (suc place) es) ∙ map-drop count_of (suc place) es ∙ ap (drop (suc place)) m) here
         ∙ set_parts place used (get_or l place 0 + 1) l place_there r

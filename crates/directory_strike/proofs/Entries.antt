@@ -85,7 +85,9 @@ module _ (id m n k i : ℕ) (ids : List ℕ) where
   goes_alone es a =
       let zero_more : m + 0 ≡ m = omega arith in
       let one_more : m + 1 ≡ suc m = omega arith in
-      by_test (eqb i id) (λ q. rw (join-above n k es a, q, zero_more)) (λ q. rw (join-above n k es a, q, one_more) (sym (join-above m k (thinned id (suc m) es ids) (thinned-above id (suc m) k es ids a))))
+      by_test (eqb i id) (λ q. rw (join-above n k es a, q, zero_more))
+      (λ q. rw (join-above n k es a, q, one_more)
+      (sym (join-above m k (thinned id (suc m) es ids) (thinned-above id (suc m) k es ids a))))
 
   goes_along : (e : Entry) (es : List Entry) → eqb e.key k ≡ true → Above k es → Goes (e ∷ es)
   unfolding thinned others

@@ -137,7 +137,8 @@ module _ {id at i row first : ℕ} {ids : List ℕ} {d now : Directory} (g : Thi
     abbrev e : Entry
     e = entry (get_or now.keys i 0) first left
 
-    pub thinning-next : {r : ℕ} {after : Directory} → PlaceRoom d d.used → after ≡ placed at e now → r ≡ at + bool_byte (not (eqb left 0)) → Thinning id r (i + 1) (row + count) (first + left) ids d after
+    pub thinning-next : {r : ℕ} {after : Directory} → PlaceRoom d d.used → after ≡ placed at e now → r ≡ at + bool_byte (not (eqb left 0))
+        → Thinning id r (i + 1) (row + count) (first + left) ids d after
     thinning-next {r} {after} room moved next = by_test (eqb left 0) gone kept
       where
         front_kept : tab at (entry_at after) ≡ tab at (entry_at now)

@@ -121,7 +121,10 @@ no_root (fin s zero e) h k =
     absurd (true≢false (sym (zero_equal s (beq s false) (0 * up e * 1) (0 * 1 * down e) (ap (λ (x : ℕ). x * 1) (zero-mul (up e))) (zero-mul (down e))) ∙ k))
 no_root (fin true (suc m) e) h k = refl
 no_root (fin false (suc m) e) h k =
-    absurd (true≢false (sym (lt-ltb (0 * 1 * down e) (suc m * up e * 1) (subst (λ (x : ℕ). x < suc m * up e * 1) (sym (zero-mul (down e))) (mul-pos (mul-pos (zero-lt-suc m) (up_pos e)) (zero-lt-suc 0)))) ∙ h))
+    absurd (true≢false (sym
+    (lt-ltb (0 * 1 * down e) (suc m * up e * 1)
+    (subst (λ (x : ℕ). x < suc m * up e * 1) (sym (zero-mul (down e))) (mul-pos (mul-pos (zero-lt-suc m) (up_pos e)) (zero-lt-suc 0))))
+    ∙ h))
 
 -- ---- 0.0 / 0.0
 pub made-nan : div binary64 (of_bits binary64 0) (of_bits binary64 0) ≡ nan

@@ -121,7 +121,8 @@ under_odd r P y q e g h k =
     let l : 2 * r + 1 ≤ 2 * q - 1 = omega arith in
     omega (arith, square_suc r, square_odd r, mul-le-mul l l)
 
-narrow : (p m i q k : ℕ) → 0 < p → m < 2 ^ p → 2 ^ (p - 1 + k) * 2 ^ (p - 1 + k) ≤ m * 2 ^ i → m * 2 ^ i < 2 ^ (p + k) * 2 ^ (p + k) → (2 * q - 1) * (2 * q - 1) * (2 ^ k * 2 ^ k) < 4 * (m * 2 ^ i) → q < 2 ^ p
+narrow : (p m i q k : ℕ) → 0 < p → m < 2 ^ p → 2 ^ (p - 1 + k) * 2 ^ (p - 1 + k) ≤ m * 2 ^ i → m * 2 ^ i < 2 ^ (p + k) * 2 ^ (p + k)
+    → (2 * q - 1) * (2 * q - 1) * (2 ^ k * 2 ^ k) < 4 * (m * 2 ^ i) → q < 2 ^ p
 narrow p m i q k P M lo hi above = lt_of_not-le (λ (g : 2 ^ p ≤ q).
     under_odd (2 ^ p - 1) (2 ^ p) w q (one (2 ^ p) (pow_pos p))
     (gap p m t M (lt_of_mul-lt-mul_right u (subst (λ (x : ℕ). x < 2 ^ p * 2 ^ p * u) e (subst (λ (x : ℕ). m * 2 ^ i < x) squares hi))))
@@ -161,7 +162,8 @@ pub in_units : (l m : ℕ) (e : ℤ) → down e ≤ 2 ^ l → (j : ℕ) × (m * 
 in_units l m (pos a) h = (a + l, mul_assoc m (2 ^ a) (2 ^ l) ∙ ap (λ (x : ℕ). m * x) (sym (pow-add 2 a l)) ∙ sym (mul-one (m * 2 ^ (a + l))))
 in_units l m (negsuc a) h = (
   l - suc a,
-  ap (λ (x : ℕ). x * 2 ^ l) (mul-one m) ∙ ap (λ (x : ℕ). m * 2 ^ x) (split (suc a) l (pow_le_back (suc a) l h)) ∙ ap (λ (x : ℕ). m * x) (pow-add 2 (l - suc a) (suc a)) ∙ sym (mul_assoc m (2 ^ (l - suc a)) (2 ^ suc a)),
+  ap (λ (x : ℕ). x * 2 ^ l) (mul-one m) ∙ ap (λ (x : ℕ). m * 2 ^ x) (split (suc a) l (pow_le_back (suc a) l h))
+      ∙ ap (λ (x : ℕ). m * x) (pow-add 2 (l - suc a) (suc a)) ∙ sym (mul_assoc m (2 ^ (l - suc a)) (2 ^ suc a)),
 )
   where
     split : (a b : ℕ) → a ≤ b → b ≡ b - a + a

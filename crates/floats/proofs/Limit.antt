@@ -69,7 +69,8 @@ unfolding is_nan
 number s m e = refl
 
 -- and back
-bits_le : (f : Format) (m : ℕ) (e : ℤ) (n : ℕ) (d : ℤ) → T (fits f (fin false m e)) → T (fits f (fin false n d)) → to_bits f (fin false m e) ≤ to_bits f (fin false n d) → le (fin false m e) (fin false n d) ≡ true
+bits_le : (f : Format) (m : ℕ) (e : ℤ) (n : ℕ) (d : ℤ) → T (fits f (fin false m e)) → T (fits f (fin false n d))
+    → to_bits f (fin false m e) ≤ to_bits f (fin false n d) → le (fin false m e) (fin false n d) ≡ true
 bits_le f m e n d F G h = go (which (le x y))
   where
     x : Float
@@ -115,7 +116,9 @@ above-next b (fin false n d) B F z h = go (dec_le (to_bits binary64 s) b)
     go : Dec (to_bits binary64 s ≤ b) → le (of_bits binary64 (b + 1)) s ≡ true
     go (yes l) =
         let r = read_finite b B' in
-        let k : le s (of_bits binary64 b) ≡ true = rw r.2 (bits_le binary64 n d r.0 r.1 F (rw r.2 at (of_bits-fits binary64 b)) (le_trans l (le_of_eq (sym (own_pattern b B') ∙ ap (to_bits binary64) r.2)))) in
+        let k : le s (of_bits binary64 b) ≡ true =
+        rw r.2 (bits_le binary64 n d r.0 r.1 F (rw r.2 at (of_bits-fits binary64 b))
+        (le_trans l (le_of_eq (sym (own_pattern b B') ∙ ap (to_bits binary64) r.2)))) in
         clash k h
     go (no l) =
         let r = read_finite (b + 1) B in

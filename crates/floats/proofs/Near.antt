@@ -23,7 +23,8 @@ square_odd a = omega (arith, square_suc (2 * a), square_double a)
 abbrev IsRoot : ℕ → ℕ → Type 0
 IsRoot n r = (r * r ≤ n) × (n < (r + 1) * (r + 1))
 
-root-step : (n r : ℕ) → r * r ≤ n / 4 → n / 4 < (r + 1) * (r + 1) → (b : Bool) → (T b → (2 * r + 1) * (2 * r + 1) ≤ n) → (T (not b) → n < (2 * r + 1) * (2 * r + 1)) → IsRoot n (cond b (2 * r + 1) (2 * r))
+root-step : (n r : ℕ) → r * r ≤ n / 4 → n / 4 < (r + 1) * (r + 1) → (b : Bool) → (T b → (2 * r + 1) * (2 * r + 1) ≤ n)
+    → (T (not b) → n < (2 * r + 1) * (2 * r + 1)) → IsRoot n (cond b (2 * r + 1) (2 * r))
 root-step n r h k true y z = (y tt, omega (arith, square_suc r, square_suc (2 * r + 1), square_odd r))
 root-step n r h k false y z = (omega (arith, square_double r), z tt)
 

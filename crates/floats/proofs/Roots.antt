@@ -50,7 +50,8 @@ positive_fits f x h p =
     let k = r.k in
     let half : prec f - 1 + k + (prec f - 1 + k) < suc (emax f) + l + l = pow_lt_back (prec f - 1 + k + (prec f - 1 + k)) (suc (emax f) + l + l)
     (lt_of_le_of_lt (le_trans (le_of_eq (pow-add 2 (prec f - 1 + k) (prec f - 1 + k))) r.least)
-    (lt_of_lt_of_le (mul-lt-mul_of_pos_right (size_bound f x r.n h p r.of) (pow_pos l)) (le_of_eq (ap (λ (z : ℕ). z * 2 ^ l) (sym (pow-add 2 (suc (emax f)) l)) ∙ sym (pow-add 2 (suc (emax f) + l) l))))) in
+    (lt_of_lt_of_le (mul-lt-mul_of_pos_right (size_bound f x r.n h p r.of) (pow_pos l))
+    (le_of_eq (ap (λ (z : ℕ). z * 2 ^ l) (sym (pow-add 2 (suc (emax f)) l)) ∙ sym (pow-add 2 (suc (emax f) + l) l))))) in
     subst (λ (y : Float). T (fits f y)) (sym (sqrt_odd f x p r))
     (odd-fits f (prec f) false r.q k r.digits (le_of_lt r.digits) (lt_of_lt_of_le (shl_lt (prec f) k r.digits) (pow_mono (room (prec f) (emax f) k (two f) (reach f) half))))
   where
@@ -282,7 +283,8 @@ zero-value (fin s (suc m) e) c C v f = absurd (lt_irrefl 0 (subst (λ (z : ℕ).
 square_units : (n l c a b : ℕ) → 0 < c → a * a * 2 ^ l ≡ n * (c * c) → a * 2 ^ l ≡ b * c → n * 2 ^ l ≡ b * b
 square_units n l c a b C x y =
     eq_of_mul-eq-mul_right (c * c) (mul-pos C C) (n * 2 ^ l) (b * b)
-    (mul_right_comm n (2 ^ l) (c * c) ∙ ap (λ (z : ℕ). z * 2 ^ l) (sym x) ∙ mul_assoc (a * a) (2 ^ l) (2 ^ l) ∙ mul-mul-mul_comm a a (2 ^ l) (2 ^ l) ∙ ap (λ (z : ℕ). z * z) y ∙ mul-mul-mul_comm b c b c)
+    (mul_right_comm n (2 ^ l) (c * c) ∙ ap (λ (z : ℕ). z * 2 ^ l) (sym x) ∙ mul_assoc (a * a) (2 ^ l) (2 ^ l)
+    ∙ mul-mul-mul_comm a a (2 ^ l) (2 ^ l) ∙ ap (λ (z : ℕ). z * z) y ∙ mul-mul-mul_comm b c b c)
 
 positive_square : (f : Format) (x y : Float) (a c : ℕ) → 0 < a → 0 < c → T (fits f x) → T (fits f y) → HasValue y false a c → HasValue x false (a * a) (c * c) → sqrt_in f x ≡ y
 positive_square f x nan a c A C h k v w = absurd v

@@ -17,7 +17,9 @@ grown F G v i e h = ap (λ (x : ℕ). x * (2 ^ i * 2 ^ i)) (e ∙ mul_comm 4 F) 
 
 room : (r s i : ℕ) → s ≤ 2 * r + 1 → (r + 1) * 2 ^ suc i ≤ 2 ^ 53 → (s + 1) * 2 ^ i ≤ 2 ^ 53
 room r s i h g =
-    let e : (r + 1) * 2 ^ suc i ≡ 2 * (r + 1) * 2 ^ i = ap (λ (x : ℕ). (r + 1) * x) (pow-suc 2 i ∙ mul_comm (2 ^ i) 2) ∙ sym (mul_assoc (r + 1) 2 (2 ^ i)) ∙ ap (λ (x : ℕ). x * 2 ^ i) (mul_comm (r + 1) 2) in
+    let e : (r + 1) * 2 ^ suc i ≡ 2 * (r + 1) * 2 ^ i =
+    ap (λ (x : ℕ). (r + 1) * x) (pow-suc 2 i ∙ mul_comm (2 ^ i) 2) ∙ sym (mul_assoc (r + 1) 2 (2 ^ i))
+    ∙ ap (λ (x : ℕ). x * 2 ^ i) (mul_comm (r + 1) 2) in
     let k : s + 1 ≤ 2 * (r + 1) = omega arith in
     le_trans (native.Mathlib.Nat.mul-le-mul_right (2 ^ i) k) (subst (λ (x : ℕ). x ≤ 2 ^ 53) e g)
 

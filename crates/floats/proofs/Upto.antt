@@ -56,7 +56,8 @@ upto-within k nan h = absurd h
 upto-within k (inf s) h = absurd h
 upto-within k (fin s m e) h =
     is_true (le (fin false m e) (pow2 k))
-    (le_of_values (fin false m e) (pow2 k) (m * up e) (down e) (2 ^ k) 1 (down_pos e) (lit< tt) (refl, refl) (refl, ap (λ (z : ℕ). z * 1) (one-mul (2 ^ k))) (subst (λ (z : ℕ). z ≤ 2 ^ k * down e) (sym (mul-one (m * up e))) h))
+    (le_of_values (fin false m e) (pow2 k) (m * up e) (down e) (2 ^ k) 1 (down_pos e) (lit< tt) (refl, refl)
+    (refl, ap (λ (z : ℕ). z * 1) (one-mul (2 ^ k))) (subst (λ (z : ℕ). z ≤ 2 ^ k * down e) (sym (mul-one (m * up e))) h))
 
 -- ---- rounding
 le→values : (x y : Float) (a c b d : ℕ) → HasValue x false a c → HasValue y false b d → T (le x y) → a * d ≤ b * c
@@ -89,9 +90,14 @@ grid-upto num den n D N h =
     let r = round_mono binary64 num den n 1 D (lit< tt) (subst (λ (z : ℕ). z ≤ n * den) (sym (mul-one num)) h) in
     by_test (ltb g (overflow binary64))
     (λ t.
-    let l = ltb-true g (overflow binary64) t in
-    (l, subst (λ (z : ℕ). z ≤ n * 2 ^ 1074) (mul-one g) (le→values (round binary64 false num den) (round binary64 false n 1) g (2 ^ 1074) n 1 (round_val binary64 num den l) (round_whole binary64 false n N) r)))
-    (λ t. absurd (no_infinity (round binary64 false n 1) n 1 (round_whole binary64 false n N) (subst (λ (z : Float). T (le z (round binary64 false n 1))) (round_overflow false num den (ltb-false g (overflow binary64) t)) r)))
+    let l = ltb-true g (overflow binary64) t in (
+      l,
+      subst (λ (z : ℕ). z ≤ n * 2 ^ 1074) (mul-one g)
+          (le→values (round binary64 false num den) (round binary64 false n 1) g (2 ^ 1074) n 1 (round_val binary64 num den l)
+          (round_whole binary64 false n N) r),
+    ))
+    (λ t. absurd (no_infinity (round binary64 false n 1) n 1 (round_whole binary64 false n N)
+    (subst (λ (z : Float). T (le z (round binary64 false n 1))) (round_overflow false num den (ltb-false g (overflow binary64) t)) r)))
 
 value-upto : (x : Float) (s : Bool) (g n : ℕ) → g ≤ n * 2 ^ 1074 → HasValue x s g (2 ^ 1074) → Upto n x
 value-upto nan s g n h v = v
@@ -103,7 +109,8 @@ pub round-upto : (s : Bool) (num den n : ℕ) → 0 < den → n ≤ 2 ^ 53 → n
 round-upto s num den n D N h =
     let g = grid-upto num den n D N h in
     subst (Upto n) (sym (round_is binary64 s num den))
-    (value-upto (units binary64 s (kept 53 (num * 2 ^ 1074) den) (drop 53 (num * 2 ^ 1074) den)) s (grid binary64 num den) n g.1 (units_val binary64 s (kept 53 (num * 2 ^ 1074) den) (drop 53 (num * 2 ^ 1074) den) g.0))
+    (value-upto (units binary64 s (kept 53 (num * 2 ^ 1074) den) (drop 53 (num * 2 ^ 1074) den)) s (grid binary64 num den) n g.1
+    (units_val binary64 s (kept 53 (num * 2 ^ 1074) den) (drop 53 (num * 2 ^ 1074) den) g.0))
 
 -- ---- the operations
 module _ (a b : ℕ) (N : a + b ≤ 2 ^ 53) where

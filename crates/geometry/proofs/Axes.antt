@@ -155,10 +155,12 @@ unfolding zip_with
 coords_off n l x xn = take_zip (λ (xi ni : Float). xi ⊖ ni ⊗ xn ⊘ l.n_dot_n) n (x.x ∷ x.y ∷ x.z ∷ []) (l.n.x ∷ l.n.y ∷ l.n.z ∷ [])
 
 -- its square is that of the distance
-off_square : (n : ℕ) (a b c : Position) → let l = line_of n a b in let q = coords n (off l (less a c) (dot (coords n (less a c)) (coords n l.n))) in dot q q ≡ line_square (coords n a) (coords n b) (coords n c)
+off_square : (n : ℕ) (a b c : Position) → let l = line_of n a b in let q =
+    coords n (off l (less a c) (dot (coords n (less a c)) (coords n l.n))) in dot q q ≡ line_square (coords n a) (coords n b) (coords n c)
 unfolding line_square line_of
 off_square n a b c = rw (coords_off n (line_of n a b) (less a c) (dot (coords n (less a c)) (coords n (less a b))), coords-less n a b, coords-less n a c)
 
-pub square_is : (n : ℕ) (a b c : Position) (l : Line) (x : Position) (xn : Float) → l ≡ line_of n a b → x ≡ less l.a c → xn ≡ dot (coords n x) (coords n l.n) → let q = coords n (off l x xn) in dot q q ≡ line_square (coords n a) (coords n b) (coords n c)
+pub square_is : (n : ℕ) (a b c : Position) (l : Line) (x : Position) (xn : Float) → l ≡ line_of n a b → x ≡ less l.a c
+    → xn ≡ dot (coords n x) (coords n l.n) → let q = coords n (off l x xn) in dot q q ≡ line_square (coords n a) (coords n b) (coords n c)
 unfolding line_of
 square_is n a b c l x xn e f g = rw (g, f, e) (off_square n a b c)

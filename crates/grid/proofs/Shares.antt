@@ -71,7 +71,8 @@ module _ (number : ℕ) (P : 1 ≤ number) (N : number ≤ 2 ^ 53) where
   share_range best i d p q h =
       by_test (eqb i best.axis)
       (λ e. rw e (both (le-leb 1 number P) (le-leb number number (omega arith))))
-      (λ e. rw e (raised (truncate (d ⊘ best.delta ⊗ of_nat number)) (share-upto d best.delta number N p q (lt_is_not_le best.delta d (unsigned_number best.delta q) (unsigned_number d p) ∙ ap not h))))
+      (λ e. rw e (raised (truncate (d ⊘ best.delta ⊗ of_nat number))
+      (share-upto d best.delta number N p q (lt_is_not_le best.delta d (unsigned_number best.delta q) (unsigned_number d p) ∙ ap not h))))
 
   shares_range : (best : Longest) (i : ℕ) (ds : List Float) → all unsigned ds ≡ true → Top best ds → all (up_to_number number) (shares number best i ds) ≡ true
   unfolding shares all

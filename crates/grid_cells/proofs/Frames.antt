@@ -94,14 +94,16 @@ module _ {n : ℕ} {m : Mesh} {t : Settings} {sizes : Sizes} (s : Sized n m t si
       counts-are : counts n ndiv ≡ counts n (index n (measure n m t) t).ndiv
       counts-are = ap (counts n) (divisions-are ∙ index-divisions)
 
-      tests_are : division_tests (coords n xmin) (coords n high) (counts n ndiv) ≡ division_tests (low_corner (measure n m t) t) (high_corner (measure n m t) t) (counts n (index n (measure n m t) t).ndiv)
+      tests_are : division_tests (coords n xmin) (coords n high) (counts n ndiv) ≡ division_tests (low_corner (measure n m t) t)
+          (high_corner (measure n m t) t) (counts n (index n (measure n m t) t).ndiv)
       tests_are = rw (low-axes, high-axes, counts-are)
 
       module _ {b : Bool} (e : b ≡ (kept sizes.apart && eqb (count_in sizes.apart) ncell)) (f : b ≡ false) where
         past-nothing : fault (frame_tests n (measure n m t) t) ≡ fault (division_tests (coords n xmin) (coords n high) (counts n ndiv))
         past-nothing = after_first n (measure n m t) t (sym nothing_is ∙ sym e ∙ f) ∙ ap fault (sym tests_are)
 
-        pub frame_refused : {A : Type 0} {r : ℕ} (a : A) → some r ≡ fault (division_tests (coords n xmin) (coords n high) (counts n ndiv)) → refused r ≡ answer (fault (frame_tests n (measure n m t) t)) a
+        pub frame_refused : {A : Type 0} {r : ℕ} (a : A) → some r ≡ fault (division_tests (coords n xmin) (coords n high) (counts n ndiv))
+            → refused r ≡ answer (fault (frame_tests n (measure n m t) t)) a
         unfolding answer
         frame_refused a g = ap (λ (o : Option ℕ). answer o a) (g ∙ sym past-nothing)
 
@@ -110,7 +112,9 @@ module _ {n : ℕ} {m : Mesh} {t : Settings} {sizes : Sizes} (s : Sized n m t si
         length-divisions = length_zip _ (coords n high) (coords n xmin) (coords-length n high d ∙ sym (coords-length n xmin d)) ∙ coords-length n high d
 
         covered_is : {xmax : Position} → xmax ≡ position_of (covered_of side (coords n xmin) (counts n ndiv))
-            → xmax ≡ position_of (covered_of (cell_side (measure n m t) t) (low_corner (measure n m t) t) (cell_divisions (cell_side (measure n m t) t) (low_corner (measure n m t) t) (high_corner (measure n m t) t)))
+            → xmax ≡ position_of
+            (covered_of (cell_side (measure n m t) t) (low_corner (measure n m t) t)
+            (cell_divisions (cell_side (measure n m t) t) (low_corner (measure n m t) t) (high_corner (measure n m t) t)))
         covered_is x =
             x
             ∙ ap (λ (ns : List ℕ). position_of (covered_of side (coords n xmin) ns)) (ap (counts n) di ∙ entries_of 1 n (cell_divisions side (coords n xmin) (coords n high)) d length-divisions)
@@ -131,6 +135,7 @@ module _ {n : ℕ} {m : Mesh} {t : Settings} {sizes : Sizes} (s : Sized n m t si
 
         pub frame_made : {xmax : Position} → xmax ≡ position_of (covered_of side (coords n xmin) (counts n ndiv)) → {large : ℕ} → large ≡ count_in sizes.apart
             → none ≡ fault (division_tests (coords n xmin) (coords n high) (counts n ndiv))
-            → success (record { ndim = n; ndiv = ndiv; side_length = side; xmin = xmin; xmax = xmax; used = 0; large = large }) ≡ answer (fault (frame_tests n (measure n m t) t)) (index n (measure n m t) t)
+            → success (record { ndim = n; ndiv = ndiv; side_length = side; xmin = xmin; xmax = xmax; used = 0; large = large }) ≡ answer
+            (fault (frame_tests n (measure n m t) t)) (index n (measure n m t) t)
         unfolding answer
         frame_made x e g = rw e (ap success (index_is x) ∙ ap (λ (o : Option ℕ). answer o (index n (measure n m t) t)) (g ∙ sym past-nothing))

@@ -74,6 +74,7 @@ module _ (lo hi : List Float) (number : Option ℕ) (tolerance border : Option F
     unfolding new_sheet last fault
     refused_10 h = rw (faults, fault-right in_force (last ∷ []) (sym e), h)
 
-    pub all_passed : le (sheet_from lo hi number tolerance border).side_length (pow2 1 ⊗ tolerance_of tolerance) ≡ false → success (sheet_from lo hi number tolerance border) ≡ new_sheet lo hi number tolerance border
+    pub all_passed : le (sheet_from lo hi number tolerance border).side_length (pow2 1 ⊗ tolerance_of tolerance) ≡ false
+        → success (sheet_from lo hi number tolerance border) ≡ new_sheet lo hi number tolerance border
     unfolding new_sheet last fault
     all_passed h = rw (faults, fault-right in_force (last ∷ []) (sym e), h)

@@ -25,7 +25,8 @@ module _ (n : ℕ) (low high : Position) (d : dimension n ≡ true) where
   counts-are : (number : ℕ) (ndiv : Divisions) → ndiv ≡ divisions_of (num_divisions number (coords n low) (coords n high)) → counts n ndiv ≡ num_divisions number (coords n low) (coords n high)
   counts-are number ndiv e = rw e (entries_of 1 n (num_divisions number (coords n low) (coords n high)) d (divisions-length number (coords n low) (coords n high) both-lengths ∙ coords-length n low d))
 
-  pub counts-good : (number : ℕ) (ndiv : Divisions) → ndiv ≡ divisions_of (num_divisions number (coords n low) (coords n high)) → 1 ≤ number → number ≤ 1024 → in_order (coords n low) (coords n high) ≡ true → all division (counts n ndiv) ≡ true
+  pub counts-good : (number : ℕ) (ndiv : Divisions) → ndiv ≡ divisions_of (num_divisions number (coords n low) (coords n high)) → 1 ≤ number
+      → number ≤ 1024 → in_order (coords n low) (coords n high) ≡ true → all division (counts n ndiv) ≡ true
   counts-good number ndiv e P N h = rw (counts-are number ndiv e) (divisions-good number (coords n low) (coords n high) P N h)
 
   -- the corners
@@ -40,7 +41,21 @@ module _ (n : ℕ) (low high : Position) (d : dimension n ≡ true) where
       → ndiv ≡ divisions_of (num_divisions num (coords n low) (coords n high)) → xmin ≡ position_of (lowered bor (coords n low)) → wide ≡ position_of (raised bor (coords n high))
       → side ≡ side_of (coords n xmin) (coords n wide) (counts n ndiv) → xmax ≡ position_of (covered_of side (coords n xmin) (counts n ndiv)) → r ≡ diagonal n
       → ◌≡◌ {A = GridSearch}
-      (record { ndim = n; low = lo; high = hi; number = number; tolerance = tolerance; border_tol = border; ndiv = ndiv; xmin = xmin; xmax = xmax; side_length = side; tol_dist = r ⊗ tol; radius = r ⊗ side ⊘ pow2 1 })
+      (record {
+        ndim = n;
+        low = lo;
+        high = hi;
+        number = number;
+        tolerance = tolerance;
+        border_tol = border;
+        ndiv = ndiv;
+        xmin = xmin;
+        xmax =
+            xmax;
+        side_length = side;
+        tol_dist = r ⊗ tol;
+        radius = r ⊗ side ⊘ pow2 1;
+      })
       (sheet_from (coords n low) (coords n high) number tolerance border)
   unfolding sheet_from
   built-is number tolerance border num bor tol lo hi xmin wide xmax ndiv side r e1 e2 e3 e4 e5 e6 e7 e8 e9 e10 e11 =

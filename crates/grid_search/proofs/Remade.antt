@@ -114,7 +114,8 @@ held_side xmin xmax ns =
     held-largest (zip_with (λ (d : Float) (n : ℕ). d ⊘ of_nat n) ds ns) (held-sides ds ns)
 
 module _ (s t : GridSearch) where
-  pub sheet_ext : s.ndim ≡ t.ndim → s.low ≡ t.low → s.high ≡ t.high → s.number ≡ t.number → s.tolerance ≡ t.tolerance → s.border_tol ≡ t.border_tol → s.ndiv ≡ t.ndiv → s.xmin ≡ t.xmin → s.xmax ≡ t.xmax
+  pub sheet_ext : s.ndim ≡ t.ndim → s.low ≡ t.low → s.high ≡ t.high → s.number ≡ t.number → s.tolerance ≡ t.tolerance
+      → s.border_tol ≡ t.border_tol → s.ndiv ≡ t.ndiv → s.xmin ≡ t.xmin → s.xmax ≡ t.xmax
       → s.side_length ≡ t.side_length → s.tol_dist ≡ t.tol_dist → s.radius ≡ t.radius → s ≡ t
   sheet_ext a b c d e f g h i j k l = rw (a, b, c, d, e, f, g, h, i, j, k, l)
 

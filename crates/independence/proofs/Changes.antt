@@ -92,7 +92,8 @@ module _ (s : GridSearch) (i : ℕ) where
   roomy-own space rows e = roomy_fewer space rows (own i rows) (length-own i rows) e
 
   -- a change of i that a library accepts, its own tests let pass where the rows of i are alone, in the same space
-  plain_too : (l l' : Library) (c : Change) → eqb (whose c) i ≡ true → space l ≡ space l' → own i (table l) ≡ table l' → fault (library_tests s l ++ plain_tests s l c) ≡ none → fault (plain_tests s l' c) ≡ none
+  plain_too : (l l' : Library) (c : Change) → eqb (whose c) i ≡ true → space l ≡ space l' → own i (table l) ≡ table l'
+      → fault (library_tests s l ++ plain_tests s l c) ≡ none → fault (plain_tests s l' c) ≡ none
   unfolding whose plain_tests room_tests id_tests
   plain_too l l' (insert j x) e z r q =
       let k = insert_tests_lem s l j x q in

@@ -67,7 +67,8 @@ start s l k v w t e = empty_in s l e.none_used e.no_place k v w t
 -- ---- 1
 
 -- libraries that both pass, or both fail
-alike : (s : GridSearch) (l l' : Holding) {o o' : Option ℕ} → fault (holding_tests s l) ≡ o → fault (holding_tests s l') ≡ o' → is_none o ≡ is_none o' → pass (holding_tests s l) ≡ pass (holding_tests s l')
+alike : (s : GridSearch) (l l' : Holding) {o o' : Option ℕ} → fault (holding_tests s l) ≡ o → fault (holding_tests s l') ≡ o'
+    → is_none o ≡ is_none o' → pass (holding_tests s l) ≡ pass (holding_tests s l')
 unfolding pass
 alike s l l' e e' h = ap is_none e ∙ h ∙ sym (ap is_none e')
 

@@ -122,7 +122,8 @@ last : (s : List ℕ) (n : ℕ) → length s ≡ suc n → drop n s ≡ get_or s
 last s n h = drop-cons s n 0 (omega arith) ∙ ap (λ (r : List ℕ). get_or s n 0 ∷ r) (drop_of_length-le s {i = suc n} (omega arith))
 
 pub without-stripped : (s : List ℕ) (r : Option (Bor (List ℕ))) (whole : Bor (List ℕ)) → whole.now ≡ s
-    → MatchOption r (pointwise eqb (drop (length s - 1) s) (13 ∷ []) ≡ false) (λ x. (pointwise eqb (drop (length s - 1) s) (13 ∷ []) ≡ true) × (x.now ≡ take (length s - 1) s) × (length x.now + 1 ≡ length s))
+    → MatchOption r (pointwise eqb (drop (length s - 1) s) (13 ∷ []) ≡ false) (λ x. (pointwise eqb (drop (length s - 1) s) (13 ∷ []) ≡ true)
+    × (x.now ≡ take (length s - 1) s) × (length x.now + 1 ≡ length s))
     → without_cr s ≡ (unwrap_or r whole).now
 without-stripped s None whole w e =
     without_kept s (λ n l b. let m : n ≡ length s - 1 = omega arith in clash (rw (← m, last s n l, eq-eqb _ _ b)) e) ∙ sym w

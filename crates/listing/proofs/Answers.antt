@@ -71,7 +71,8 @@ module _ (s : GridSearch) (l : Library) (p : Asked) (f : Filter) (list : List �
         stopped e (sym (fault_stop (library_tests s l ++ ours) last (refusal_number e) (fault-right (library_tests s l) ours ok ∙ here))) raised
 
     -- only 14 is left
-    pub listed_out : none ≡ fault (place_tests s p f (ltb 0 l.used)) → {r : Result ℕ Refusal} {after : List ℕ} → Out (ids_of (is_on s p f) (table l)) list r after → Lists (listing s l p f list) r after
+    pub listed_out : none ≡ fault (place_tests s p f (ltb 0 l.used)) → {r : Result ℕ Refusal} {after : List ℕ}
+        → Out (ids_of (is_on s p f) (table l)) list r after → Lists (listing s l p f list) r after
     unfolding listing listing_tests on_tests ids_on
     listed_out is {r} {after} o =
         let good : fault ours ≡ none = ap (λ (b : Bool). fault (place_tests s p f b)) (sym (occupied-used l)) ∙ sym is in

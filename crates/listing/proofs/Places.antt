@@ -154,7 +154,8 @@ module _ (n : ℕ) (a b x : Position) {d : Option Float} {q : Float} where
   unfolding asked place_distance told_by point_cylinder point_line
   cylinder-told r g e = rw (g, e)
 
-pub circle-told : (n : ℕ) (a x : Position) (r : Float) {d : Option Float} {q : Float} → d ≡ Some r → q ≡ point_square (coords n a) (coords n x) → told_by d q ≡ place_distance (asked n (place.Circle a r)) (coords n x)
+pub circle-told : (n : ℕ) (a x : Position) (r : Float) {d : Option Float} {q : Float} → d ≡ Some r
+    → q ≡ point_square (coords n a) (coords n x) → told_by d q ≡ place_distance (asked n (place.Circle a r)) (coords n x)
 unfolding asked place_distance told_by point_circle point_point
 circle-told n a x r g e = rw (g, e)
 

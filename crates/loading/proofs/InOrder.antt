@@ -90,7 +90,9 @@ module _ {A : Type 0} (one : Library → A → Turn ℕ) (count : ℕ) (item : �
       -- it is turned away: that is the answer
       pub stops : (n : ℕ) → Gives (one l (item i)) (refused n) after → Gives (insert_all one l₀ (tab count item)) (refused n) after
       stops n u =
-          let whole : insert_all one l₀ (tab count item) ≡ one l (item i) = now_it ∙ then-refused (one l (item i)) (insert_all one (one l (item i)).library (drop (suc i) (tab count item))) n (sym u.answers) in
+          let whole : insert_all one l₀ (tab count item) ≡ one l (item i) =
+          now_it ∙ then-refused (one l (item i)) (insert_all one (one l (item i)).library (drop (suc i) (tab count item))) n
+          (sym u.answers) in
           rw whole u
 
   -- all are stored

@@ -45,7 +45,8 @@ module _ (l : MarkList) where
 -- ---- what a write leaves
 
 marks-over : (marks : List Record) (a : List ℕ) (b c d : List Float)
-    → marks_in (mark_list (map (λ (m : Record). m.id) marks ++ a) (map (λ (m : Record). m.x) marks ++ b) (map (λ (m : Record). m.y) marks ++ c) (map (λ (m : Record). m.z) marks ++ d) (length marks)) ≡ marks
+    → marks_in (mark_list (map (λ (m : Record). m.id) marks ++ a) (map (λ (m : Record). m.x) marks ++ b)
+    (map (λ (m : Record). m.y) marks ++ c) (map (λ (m : Record). m.z) marks ++ d) (length marks)) ≡ marks
 unfolding marks_in
 marks-over [] a b c d = refl
 marks-over (m ∷ marks) a b c d = ap (λ (l : List Record). m ∷ l) (marks-over marks a b c d)

@@ -110,7 +110,9 @@ below (fin false (suc m) e) p = lt-ltb 0 (suc m * up e * 1 + 0 * 1 * down e) (om
 
 nearest-is : (x y : Float) (minus : Bool) (n : ℕ) → abs_of x ≡ y → lt x zero_f ≡ minus → truncate (y ⊗ of_nat 1000 ⊕ pow2⁻ 1) ≡ n → nearest_to x ≡ signed minus n
 unfolding nearest_to
-nearest-is x y minus n p q r = ap (λ (t : Bool). signed t (truncate (abs_of x ⊗ of_nat 1000 ⊕ pow2⁻ 1))) q ∙ ap (λ (z : Float). signed minus (truncate (z ⊗ of_nat 1000 ⊕ pow2⁻ 1))) p ∙ ap (signed minus) r
+nearest-is x y minus n p q r =
+    ap (λ (t : Bool). signed t (truncate (abs_of x ⊗ of_nat 1000 ⊕ pow2⁻ 1))) q
+    ∙ ap (λ (z : Float). signed minus (truncate (z ⊗ of_nat 1000 ⊕ pow2⁻ 1))) p ∙ ap (signed minus) r
 
 nearest_zero : nearest_to (value_of (pos 0)) ≡ pos 0
 unfolding nearest_to value_of of_int div mul add to_unsigned
@@ -145,8 +147,10 @@ value-decimal m h = (test-is (value_of m) ∙ rw (nearest-value m h) (both (le-l
 pub decimal-value : (x : Float) → is_decimal x ≡ true → Binary64 x → (x ≡ value_of (nearest_to x)) × (nat_abs (nearest_to x) ≤ limit)
 decimal-value x h b =
     let m = nearest_to x in
-    let t = sym (test-is x) ∙ h in
-    (sym (same_bits-same (value_of m) x (value-held m) b (and_right (leb (nat_abs m) limit) (same_bits (value_of m) x) t)), leb-true (nat_abs m) limit (and_left (leb (nat_abs m) limit) (same_bits (value_of m) x) t))
+    let t = sym (test-is x) ∙ h in (
+      sym (same_bits-same (value_of m) x (value-held m) b (and_right (leb (nat_abs m) limit) (same_bits (value_of m) x) t)),
+      leb-true (nat_abs m) limit (and_left (leb (nat_abs m) limit) (same_bits (value_of m) x) t),
+    )
 
 -- ---- and its answer
 pub decimal-some : (x : Float) → is_decimal x ≡ true → decimal_of x ≡ some (nearest_to x)

@@ -49,7 +49,9 @@ module _ (s : GridSearch) (l : Library) (buffer exit : List ℕ) where
   -- a refusal, where the text would fit: that of a library that is damaged
   pub shown-refused : (e : Refusal) → (fault (library_tests s l) ≡ none → length text ≤ length buffer) → Shows (showing s l buffer) (Err e) exit → library_text s l ≡ refusal (refusal_number e ∷ [])
   unfolding showing display_tests library_text text_or
-  shown-refused e fits h = rw (damaged (fault (library_tests s l)) (refusal_number e) refl fits (fill-refused text buffer (refusal_number e) (fault (display_tests s l (length buffer))) (sym h.answers)))
+  shown-refused e fits h =
+      rw (damaged (fault (library_tests s l)) (refusal_number e) refl fits
+      (fill-refused text buffer (refusal_number e) (fault (display_tests s l (length buffer))) (sym h.answers)))
 
 -- the text of so few rows fits, where it is short
 pub short_fits : (s : GridSearch) (l : Library) → IsShort s l → length l.keys ≤ 1024 → fault (library_tests s l) ≡ none → length (display_text s (table l)) ≤ 70804

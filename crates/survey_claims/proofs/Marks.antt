@@ -100,7 +100,8 @@ module _ (m : Record) (good : good_mark m ≡ true) (held : lent m ≡ true) whe
   bare_fields : split 44 (bare m) ≡ decimal m.id ∷ coordinate_text (nearest_to m.x) ∷ coordinate_text (nearest_to m.y) ∷ coordinate_text (nearest_to m.z) ∷ [] ∷ []
   bare_fields =
       joined_fields (decimal m.id) (coordinate_text (nearest_to m.x)) (coordinate_text (nearest_to m.y)) (coordinate_text (nearest_to m.z))
-      (decimal-without 44 refl m.id) (coordinate-without 44 refl refl refl (nearest_to m.x)) (coordinate-without 44 refl refl refl (nearest_to m.y)) (coordinate-without 44 refl refl refl (nearest_to m.z))
+      (decimal-without 44 refl m.id) (coordinate-without 44 refl refl refl (nearest_to m.x))
+      (coordinate-without 44 refl refl refl (nearest_to m.y)) (coordinate-without 44 refl refl refl (nearest_to m.z))
 
   pub bare-good : good_line (bare m) ≡ true
   bare-good =

@@ -172,12 +172,15 @@ module _ (m : ℕ) (e : ℤ) (m' : ℕ) (e' : ℤ) (n : ℕ) (d : ℤ) (h : m * 
       by_test (ltb (A * down d) (B * down e))
       (λ t. by_test (ltb (A' * down d) (B * down e'))
       (λ u. rw (t, u) (round_flip (B * down e' - A' * down d) (down e' * down d) (B * down e - A * down d) (down e * down d)
-      (is_true _ (round_mono binary64 (B * down e' - A' * down d) (down e' * down d) (B * down e - A * down d) (down e * down d) (mul-pos (down_pos e') (down_pos d)) (mul-pos (down_pos e) (down_pos d))
+      (is_true _ (round_mono binary64 (B * down e' - A' * down d) (down e' * down d) (B * down e - A * down d) (down e * down d)
+      (mul-pos (down_pos e') (down_pos d)) (mul-pos (down_pos e) (down_pos d))
       (minus_less A (down e) A' (down e') B (down d) (down_pos e) (down_pos e') (down_pos d) h)))))
       (λ u. rw (t, u) (round_across (B * down e - A * down d) (down e * down d) (A' * down d - B * down e') (down e' * down d))))
       (λ t. by_test (ltb (A' * down d) (B * down e'))
       (λ u. absurd (no_turn A (down e) A' (down e') B (down d) (down_pos e) (down_pos e') (down_pos d) h (ltb-false _ _ t) (ltb-true _ _ u)))
-      (λ u. rw (t, u) (is_true _ (round_mono binary64 (A * down d - B * down e) (down e * down d) (A' * down d - B * down e') (down e' * down d) (mul-pos (down_pos e) (down_pos d)) (mul-pos (down_pos e') (down_pos d))
+      (λ u. rw (t, u) (is_true _
+      (round_mono binary64 (A * down d - B * down e) (down e * down d) (A' * down d - B * down e') (down e' * down d)
+      (mul-pos (down_pos e) (down_pos d)) (mul-pos (down_pos e') (down_pos d))
       (minus_more A (down e) A' (down e') B (down d) (down_pos e) (down_pos e') (down_pos d) h)))))
 
 -- a larger value less a finite number is no smaller

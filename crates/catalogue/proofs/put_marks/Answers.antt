@@ -14,7 +14,8 @@ pub returns : goal.returns
 unfolding empty_library of_bits
 returns g c =
     let r = c.insert_file-answer in
-    let p = of_lists c.args.sheet (inserted r.result) c.put_outcome.new.text c.put_outcome.result (lent_mut r.new.library) c.put_outcome.ensures (search rules) (search rules) (search rules) (search rules) (search rules) refl in
+    let p = of_lists c.args.sheet (inserted r.result) c.put_outcome.new.text c.put_outcome.result
+    (lent_mut r.new.library) c.put_outcome.ensures (search rules) (search rules) (search rules) (search rules) (search rules) refl in
     record {
       prefix_len = p.0;
       judged = judged c.args.sheet c.requires r.result (lent_mut r.new.library) _ r.ensures.read p.1;

@@ -12,8 +12,12 @@ bounds-large-n c = marking_room c.requires c.loop-cell.invariant (omega (arith, 
 pub loop-cell-preserved : goal.loop-cell-preserved
 loop-cell-preserved c =
     elim c.if-is_large.branch [
-      | then-is_large w ↦ rw (w.n-is, w.large-is) (marking_large c.requires c.loop-cell.invariant (omega (arith, c.cell_count-cell-end.ensures)) c.bounding_box.ensures (sym c.is_large.ensures ∙ w.if-is_large.true) refl)
-      | else-is_large w ↦ rw (w.n-is, w.large-is) (marking_other c.requires c.loop-cell.invariant (omega (arith, c.cell_count-cell-end.ensures)) c.bounding_box.ensures (sym c.is_large.ensures ∙ w.if-is_large.false))
+      | then-is_large w ↦ rw (w.n-is, w.large-is)
+          (marking_large c.requires c.loop-cell.invariant (omega (arith, c.cell_count-cell-end.ensures)) c.bounding_box.ensures
+          (sym c.is_large.ensures ∙ w.if-is_large.true) refl)
+      | else-is_large w ↦ rw (w.n-is, w.large-is)
+          (marking_other c.requires c.loop-cell.invariant (omega (arith, c.cell_count-cell-end.ensures)) c.bounding_box.ensures
+          (sym c.is_large.ensures ∙ w.if-is_large.false))
     ]
 
 pub returns : goal.returns

@@ -28,11 +28,13 @@ enter_row-requires c =
 pub loop-key-preserved : goal.loop-key-preserved
 loop-key-preserved c =
     let i = c.loop-key.key-index in
-    let After = λ (d : Directory). BecomesBoth (put_in c.args.mark.id.0 c.args.mark.at (take (i + 1) c.args.into.now)) (lent_mut c.args.library.now) (kept_mut c.args.directory.now) (lent_mut c.put.new.self) d in
+    let After = λ (d : Directory). BecomesBoth (put_in c.args.mark.id.0 c.args.mark.at (take (i + 1) c.args.into.now))
+    (lent_mut c.args.library.now) (kept_mut c.args.directory.now) (lent_mut c.put.new.self) d in
     let stores : After (kept_mut c.if-library-rows.directory) = elim c.if-library-rows.branch [
       | then-library-rows w ↦
           rw w.directory-is
-          (both-more c.args.mark.id.0 c.args.mark.at c.args.into.now _ _ c.requires i c.loop-key.invariant.stores c.loop-key-test.true c.put.ensures.puts (λ e. w.if-library-rows.true (sym e)) w.enter_row.ensures.enters)
+          (both-more c.args.mark.id.0 c.args.mark.at c.args.into.now _ _ c.requires i c.loop-key.invariant.stores c.loop-key-test.true
+          c.put.ensures.puts (λ e. w.if-library-rows.true (sym e)) w.enter_row.ensures.enters)
       | else-library-rows w ↦
           rw w.directory-is
           (both-same c.args.mark.id.0 c.args.mark.at c.args.into.now _ _ c.requires i c.loop-key.invariant.stores c.loop-key-test.true c.put.ensures.puts (sym w.if-library-rows.false))

@@ -39,18 +39,21 @@ find_from-requires-clause-axes c = (passed_sheet c.args.sheet (lent c.args.libra
 pub find_from-requires-clause-ordered : goal.find_from-requires-clause-ordered
 find_from-requires-clause-ordered c =
     let a = c.args in
-    passed_order a.sheet (lent a.library) (kept a.directory) c.requires.passing a.key (look_of c.find_place.result) c.find_place.ensures (ap place_told c.in_ok-place.was) {from = c.entry-entry.result.first}
+    passed_order a.sheet (lent a.library) (kept a.directory) c.requires.passing a.key (look_of c.find_place.result) c.find_place.ensures
+    (ap place_told c.in_ok-place.was) {from = c.entry-entry.result.first}
     (rw c.entry-entry.ensures) (c.end_of.ensures ∙ rw c.entry-entry.ensures)
 
 pub find_from-requires-clause-first : goal.find_from-requires-clause-first
 find_from-requires-clause-first c =
     let a = c.args in
-    passed_from a.sheet (lent a.library) (kept a.directory) c.requires.passing a.key (look_of c.find_place.result) c.find_place.ensures (ap place_told c.in_ok-place.was) {from = c.entry-entry.result.first}
+    passed_from a.sheet (lent a.library) (kept a.directory) c.requires.passing a.key (look_of c.find_place.result) c.find_place.ensures
+    (ap place_told c.in_ok-place.was) {from = c.entry-entry.result.first}
     (rw c.entry-entry.ensures) (c.end_of.ensures ∙ rw c.entry-entry.ensures)
 
 pub returns : goal.returns
 returns c =
     let a = c.args in
     c.find_from.ensures
-    ∙ passed_near a.sheet (lent a.library) (kept a.directory) c.requires.passing a.key (look_of c.find_place.result) c.find_place.ensures (ap place_told c.in_ok-place.was) {from = c.entry-entry.result.first}
+    ∙ passed_near a.sheet (lent a.library) (kept a.directory) c.requires.passing a.key (look_of c.find_place.result) c.find_place.ensures
+    (ap place_told c.in_ok-place.was) {from = c.entry-entry.result.first}
     (rw c.entry-entry.ensures) (c.end_of.ensures ∙ rw c.entry-entry.ensures) (coords a.sheet.ndim a.x) c.requires.inside

@@ -67,6 +67,9 @@ returns-clause-gives c =
     let d = kept_mut c.args.directory.now in
     let told = c.in_ok-directory_fault.ensures ∙ ap (λ (e : Directory). fault (directory_tests s (lent c.as_library-before.result) e)) c.as_directory.ensures in
     let P = λ (m : Library). Leaves (without c.args.id.0) m (lent_mut c.remove.new.library) in
-    let Q = λ (m : Library). GivesBoth (filing s m d (striking s m c.args.id.0)) (success (c.as_library-before.result.used - c.remove.new.library.used)) (lent_mut c.remove.new.library) (kept_mut c.take_off.new.directory) in
+    let Q = λ (m : Library). GivesBoth (filing s m d (striking s m c.args.id.0))
+    (success (c.as_library-before.result.used - c.remove.new.library.used)) (lent_mut c.remove.new.library)
+    (kept_mut c.take_off.new.directory) in
     subst Q c.as_library-before.ensures
-    (accepted s (lent c.as_library-before.result) d c.args.id.0 (sym told) c.in-Some.ensures.0 (subst P (sym c.as_library-before.ensures) c.remove.ensures.leaves) c.take_off.ensures.takes c.in-Some.ensures.1)
+    (accepted s (lent c.as_library-before.result) d c.args.id.0 (sym told) c.in-Some.ensures.0
+    (subst P (sym c.as_library-before.ensures) c.remove.ensures.leaves) c.take_off.ensures.takes c.in-Some.ensures.1)

@@ -9,7 +9,11 @@ loop-preserved c =
     let a = c.args.m.units in
     let l = c.loop in
     let left : 53 - l.counter ≡ 53 - (l.counter + 1) + 1 = omega arith in
-    (elim c.if-rest-r.branch [ then-rest-r m ↦ rw (m.r-is, m.rest-is) (turn_one a l.w l.r l.rest _ _ left l.invariant m.if-rest-r.true) | else-rest-r m ↦ rw (m.r-is, m.rest-is) (turn_zero a l.w l.r l.rest _ _ left l.invariant m.if-rest-r.false) ])
+    (elim c.if-rest-r.branch [
+      | then-rest-r m ↦ rw (m.r-is, m.rest-is) (turn_one a l.w l.r l.rest _ _ left l.invariant m.if-rest-r.true)
+      | else-rest-r m ↦
+          rw (m.r-is, m.rest-is) (turn_zero a l.w l.r l.rest _ _ left l.invariant m.if-rest-r.false)
+    ])
 
 pub returns-then-rest-r-2 : goal.returns-then-rest-r-2
 returns-then-rest-r-2 c =

@@ -11,5 +11,13 @@ unfolding num_divisions shares
 returns c =
     let a = c.args in
     let d = less a.xmin a.xmax in
-    rw (← coords-less a.ndim.n a.xmin a.xmax, ← c.longest_axis-long.ensures, ← take-shares a.ndiv_long c.longest_axis-long.result a.ndim.n 0 (d.x ∷ d.y ∷ d.z ∷ []), ← c.share.ensures, ← c.share-2.ensures, ← c.share-3.ensures)
+    rw (
+      ← coords-less a.ndim.n a.xmin a.xmax,
+      ← c.longest_axis-long.ensures,
+      ← take-shares a.ndiv_long c.longest_axis-long.result a.ndim.n 0
+          (d.x ∷ d.y ∷ d.z ∷ []),
+      ← c.share.ensures,
+      ← c.share-2.ensures,
+      ← c.share-3.ensures,
+    )
     c.in_use.ensures

@@ -15,7 +15,11 @@ returns c =
     let d = sized c.args.ndim.n c.args.ndim.two_or_three c.args.ndiv c.in_use-d.result c.in_use-d.ensures c.requires.divisions in
     let key = c.args.key.0 in
     let below = rw (← containers-are c.args.ndim.n c.args.ndim.two_or_three c.args.ndiv c.in_use-d.result c.in_use-d.ensures) at c.requires.key_in_range in
-    rw (← pivots-are c.args.ndim.n c.args.ndim.two_or_three c.args.ndiv c.in_use-d.result c.in_use-d.ensures key, second-index c.in_use-d.result.x c.in_use-d.result.y key d.x.least d.y.least, third-index c.in_use-d.result.x c.in_use-d.result.y c.in_use-d.result.z key d.x.least d.y.least below)
+    rw (
+      ← pivots-are c.args.ndim.n c.args.ndim.two_or_three c.args.ndiv c.in_use-d.result c.in_use-d.ensures key,
+      second-index c.in_use-d.result.x c.in_use-d.result.y key d.x.least d.y.least,
+      third-index c.in_use-d.result.x c.in_use-d.result.y c.in_use-d.result.z key d.x.least d.y.least below,
+    )
 
 pub nonzero_rem-result : goal.nonzero_rem-result
 nonzero_rem-result c = (sized c.args.ndim.n c.args.ndim.two_or_three c.args.ndiv c.in_use-d.result c.in_use-d.ensures c.requires.divisions).x.least

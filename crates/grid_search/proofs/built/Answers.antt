@@ -20,10 +20,18 @@ pub num_divisions-ndiv-requires : goal.num_divisions-ndiv-requires
 num_divisions-ndiv-requires c = record { most = rw (c.unwrap_or.ensures, number-is c.args.settings.number) c.requires.most }
 
 pub side-side_length-requires : goal.side-side_length-requires
-side-side_length-requires c = let a = c.args.settings in record { divisions = good a.ndim.n a.low a.high c.args.settings.ndim.two_or_three a.number _ c.unwrap_or.ensures c.requires.least c.requires.most _ c.num_divisions-ndiv.ensures c.requires.in_order }
+side-side_length-requires c = let a =
+    c.args.settings in record {
+      divisions = good a.ndim.n a.low a.high c.args.settings.ndim.two_or_three a.number _ c.unwrap_or.ensures c.requires.least c.requires.most
+          _ c.num_divisions-ndiv.ensures c.requires.in_order;
+    }
 
 pub covered-xmax-requires : goal.covered-xmax-requires
-covered-xmax-requires c = let a = c.args.settings in record { divisions = good a.ndim.n a.low a.high c.args.settings.ndim.two_or_three a.number _ c.unwrap_or.ensures c.requires.least c.requires.most _ c.num_divisions-ndiv.ensures c.requires.in_order }
+covered-xmax-requires c = let a =
+    c.args.settings in record {
+      divisions = good a.ndim.n a.low a.high c.args.settings.ndim.two_or_three a.number _ c.unwrap_or.ensures c.requires.least c.requires.most
+          _ c.num_divisions-ndiv.ensures c.requires.in_order;
+    }
 
 pub returns : goal.returns
 unfolding of_bits

@@ -19,5 +19,12 @@ pub returns : goal.returns
 unfolding covered_of
 returns c =
     let a = c.args in
-    rw (← counts-are a.ndim.n c.args.ndim.two_or_three a.ndiv c.in_use-n.result c.in_use-n.ensures, ← take_zip (λ (x : Float) (k : ℕ). x ⊕ a.side ⊗ of_nat k) a.ndim.n (a.xmin.x ∷ a.xmin.y ∷ a.xmin.z ∷ []) (c.in_use-n.result.x ∷ c.in_use-n.result.y ∷ c.in_use-n.result.z ∷ []), ← c.end_along.ensures, ← c.end_along-2.ensures, ← c.end_along-3.ensures)
+    rw (
+      ← counts-are a.ndim.n c.args.ndim.two_or_three a.ndiv c.in_use-n.result c.in_use-n.ensures,
+      ← take_zip (λ (x : Float) (k : ℕ). x ⊕ a.side ⊗ of_nat k) a.ndim.n (a.xmin.x ∷ a.xmin.y ∷ a.xmin.z ∷ [])
+          (c.in_use-n.result.x ∷ c.in_use-n.result.y ∷ c.in_use-n.result.z ∷ []),
+      ← c.end_along.ensures,
+      ← c.end_along-2.ensures,
+      ← c.end_along-3.ensures,
+    )
     c.in_use.ensures

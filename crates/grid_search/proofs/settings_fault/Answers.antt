@@ -21,28 +21,58 @@ returns-then-ndiv_long-eq1 c =
 pub returns-then-ndiv_long-gt1024 : goal.returns-then-ndiv_long-gt1024
 unfolding fault in_force_tests
 returns-then-ndiv_long-gt1024 c =
-    rw (← c.out_of_limits.ensures, c.if-out_of_limits.false, ne_eqb c.args.ndiv_long 0 c.if-ndiv_long-eq0.false, ne_eqb c.args.ndiv_long 1 c.if-ndiv_long-eq1.false, lt-ltb 1024 c.args.ndiv_long c.if-ndiv_long-gt1024.true)
+    rw (
+      ← c.out_of_limits.ensures,
+      c.if-out_of_limits.false,
+      ne_eqb c.args.ndiv_long 0 c.if-ndiv_long-eq0.false,
+      ne_eqb c.args.ndiv_long 1 c.if-ndiv_long-eq1.false,
+      lt-ltb 1024 c.args.ndiv_long c.if-ndiv_long-gt1024.true,
+    )
 
 pub returns-then-not-is_above : goal.returns-then-not-is_above
 unfolding fault in_force_tests
 returns-then-not-is_above c =
-    rw (← c.out_of_limits.ensures, c.if-out_of_limits.false, ne_eqb c.args.ndiv_long 0 c.if-ndiv_long-eq0.false, ne_eqb c.args.ndiv_long 1 c.if-ndiv_long-eq1.false, le-ltb 1024 c.args.ndiv_long c.if-ndiv_long-gt1024.false)
+    rw (
+      ← c.out_of_limits.ensures,
+      c.if-out_of_limits.false,
+      ne_eqb c.args.ndiv_long 0 c.if-ndiv_long-eq0.false,
+      ne_eqb c.args.ndiv_long 1 c.if-ndiv_long-eq1.false,
+      le-ltb 1024 c.args.ndiv_long c.if-ndiv_long-gt1024.false,
+    )
     (rw (← c.is_above.ensures, c.if-not-is_above.true))
 
 pub returns-then-tol : goal.returns-then-tol
 unfolding fault in_force_tests of_bits
 returns-then-tol c =
-    rw (← c.out_of_limits.ensures, c.if-out_of_limits.false, ne_eqb c.args.ndiv_long 0 c.if-ndiv_long-eq0.false, ne_eqb c.args.ndiv_long 1 c.if-ndiv_long-eq1.false, le-ltb 1024 c.args.ndiv_long c.if-ndiv_long-gt1024.false)
+    rw (
+      ← c.out_of_limits.ensures,
+      c.if-out_of_limits.false,
+      ne_eqb c.args.ndiv_long 0 c.if-ndiv_long-eq0.false,
+      ne_eqb c.args.ndiv_long 1 c.if-ndiv_long-eq1.false,
+      le-ltb 1024 c.args.ndiv_long c.if-ndiv_long-gt1024.false,
+    )
     (rw (← c.is_above.ensures, c.if-not-is_above.false, c.if-tol.true))
 
 pub returns-then-border : goal.returns-then-border
 unfolding fault in_force_tests of_bits
 returns-then-border c =
-    rw (← c.out_of_limits.ensures, c.if-out_of_limits.false, ne_eqb c.args.ndiv_long 0 c.if-ndiv_long-eq0.false, ne_eqb c.args.ndiv_long 1 c.if-ndiv_long-eq1.false, le-ltb 1024 c.args.ndiv_long c.if-ndiv_long-gt1024.false)
+    rw (
+      ← c.out_of_limits.ensures,
+      c.if-out_of_limits.false,
+      ne_eqb c.args.ndiv_long 0 c.if-ndiv_long-eq0.false,
+      ne_eqb c.args.ndiv_long 1 c.if-ndiv_long-eq1.false,
+      le-ltb 1024 c.args.ndiv_long c.if-ndiv_long-gt1024.false,
+    )
     (rw (← c.is_above.ensures, c.if-not-is_above.false, c.if-tol.false, c.if-border.true))
 
 pub returns : goal.returns
 unfolding fault in_force_tests of_bits
 returns c =
-    rw (← c.out_of_limits.ensures, c.if-out_of_limits.false, ne_eqb c.args.ndiv_long 0 c.if-ndiv_long-eq0.false, ne_eqb c.args.ndiv_long 1 c.if-ndiv_long-eq1.false, le-ltb 1024 c.args.ndiv_long c.if-ndiv_long-gt1024.false)
+    rw (
+      ← c.out_of_limits.ensures,
+      c.if-out_of_limits.false,
+      ne_eqb c.args.ndiv_long 0 c.if-ndiv_long-eq0.false,
+      ne_eqb c.args.ndiv_long 1 c.if-ndiv_long-eq1.false,
+      le-ltb 1024 c.args.ndiv_long c.if-ndiv_long-gt1024.false,
+    )
     (rw (← c.is_above.ensures, c.if-not-is_above.false, c.if-tol.false, c.if-border.false))

@@ -21,5 +21,13 @@ unfolding side_of
 returns c =
     let a = c.args in
     let lengths = zip_with (λ (y x : Float). y ⊖ x) (a.xmax.x ∷ a.xmax.y ∷ a.xmax.z ∷ []) (a.xmin.x ∷ a.xmin.y ∷ a.xmin.z ∷ []) in
-    rw (← counts-are a.ndim.n c.args.ndim.two_or_three a.ndiv c.in_use-n.result c.in_use-n.ensures, ← take_zip (λ (y x : Float). y ⊖ x) a.ndim.n (a.xmax.x ∷ a.xmax.y ∷ a.xmax.z ∷ []) (a.xmin.x ∷ a.xmin.y ∷ a.xmin.z ∷ []), ← take_zip (λ (d : Float) (k : ℕ). d ⊘ of_nat k) a.ndim.n lengths (c.in_use-n.result.x ∷ c.in_use-n.result.y ∷ c.in_use-n.result.z ∷ []), ← c.side_along.ensures, ← c.side_along-2.ensures, ← c.side_along-3.ensures)
+    rw (
+      ← counts-are a.ndim.n c.args.ndim.two_or_three a.ndiv c.in_use-n.result c.in_use-n.ensures,
+      ← take_zip (λ (y x : Float). y ⊖ x) a.ndim.n (a.xmax.x ∷ a.xmax.y ∷ a.xmax.z ∷ []) (a.xmin.x ∷ a.xmin.y ∷ a.xmin.z ∷ []),
+      ← take_zip (λ (d : Float) (k : ℕ). d ⊘ of_nat k) a.ndim.n lengths
+          (c.in_use-n.result.x ∷ c.in_use-n.result.y ∷ c.in_use-n.result.z ∷ []),
+      ← c.side_along.ensures,
+      ← c.side_along-2.ensures,
+      ← c.side_along-3.ensures,
+    )
     c.largest.ensures

@@ -12,7 +12,9 @@ pub loop-i-preserved : goal.loop-i-preserved
 loop-i-preserved c =
     let i = c.loop-i.i in
     record {
-      closing = closing-next c.loop-i.invariant.closing c.loop-i-test.true c.requires.room (c.row-row.ensures ∙ ap (λ (l : Library). row_at l i) c.as_library.ensures) c.write_row.ensures.writes (ap (λ n. c.loop-i.at + n) c.from-at.ensures);
+      closing = closing-next c.loop-i.invariant.closing c.loop-i-test.true c.requires.room
+          (c.row-row.ensures ∙ ap (λ (l : Library). row_at l i) c.as_library.ensures) c.write_row.ensures.writes
+          (ap (λ n. c.loop-i.at + n) c.from-at.ensures);
       same_lists = (cc, cc, cc, cc, cc);
     }
 

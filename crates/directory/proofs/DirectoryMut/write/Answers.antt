@@ -15,7 +15,8 @@ loop-entry-preserved c =
     let es = entries_from 0 c.args.keys.now in
     let d = kept_mut c.args.self.now in
     let n = length c.loop-entry.yielded in
-    let turn = YieldsList-turn (YieldsList-from_first (λ x. x) containers_left es cc) c.loop-entry.yielded _ c.loop-entry.yielded_by _ c.next.new.self c.in-Some.entry c.in-Some.is c.next.ensures.steps in
+    let turn = YieldsList-turn (YieldsList-from_first (λ x. x) containers_left es cc) c.loop-entry.yielded _ c.loop-entry.yielded_by _
+    c.next.new.self c.in-Some.entry c.in-Some.is c.next.ensures.steps in
     let more = subst (Written (take (n + 1) es) d) (sym c.push.ensures.pushes) (written-more es d c.requires c.loop-entry.invariant.written turn.0 turn.1) in
     record {
       written = rw (length_push c.loop-entry.yielded c.in-Some.entry) more;

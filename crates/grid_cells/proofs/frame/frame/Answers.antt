@@ -14,7 +14,8 @@ pub returns-in_err-divisions_fault : goal.returns-in_err-divisions_fault
 unfolding of_bits
 returns-in_err-divisions_fault c =
     raised_answer _ c.in_err-divisions_fault.field-0.0 c.from_residual.result c.from_residual.ensures
-    ∙ frame_refused c.requires c.args.mesh.ndim.two_or_three c.cell_count.ensures c.lowered-xmin.ensures c.raised-high.ensures refl c.divide-ndiv.ensures c.is_nothing_filed.ensures c.if-is_nothing_filed.false
+    ∙ frame_refused c.requires c.args.mesh.ndim.two_or_three c.cell_count.ensures c.lowered-xmin.ensures c.raised-high.ensures refl
+    c.divide-ndiv.ensures c.is_nothing_filed.ensures c.if-is_nothing_filed.false
     _ c.in_err-divisions_fault.ensures
 
 pub covered-xmax-requires : goal.covered-xmax-requires
@@ -25,5 +26,6 @@ covered-xmax-requires c =
 pub returns : goal.returns
 unfolding of_bits
 returns c =
-    frame_made c.requires c.args.mesh.ndim.two_or_three c.cell_count.ensures c.lowered-xmin.ensures c.raised-high.ensures refl c.divide-ndiv.ensures c.is_nothing_filed.ensures c.if-is_nothing_filed.false
+    frame_made c.requires c.args.mesh.ndim.two_or_three c.cell_count.ensures c.lowered-xmin.ensures c.raised-high.ensures refl
+    c.divide-ndiv.ensures c.is_nothing_filed.ensures c.if-is_nothing_filed.false
     c.covered-xmax.ensures c.large_count.ensures c.in_ok-divisions_fault.ensures

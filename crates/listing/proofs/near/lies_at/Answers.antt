@@ -10,7 +10,9 @@ returns-in-Line g c = (
   (
     c.point.ensures,
     c.holds.ensures
-        ∙ ap (lies c.args.w.from c.args.w.to) (rw c.in-Line.is (line-told c.args.ndim.n _ _ c.point.result (rw c.in-Line.is at c.requires.window) (c.line_square.ensures _ _ (rw c.in-Line.is at c.requires.line)))),
+        ∙ ap (lies c.args.w.from c.args.w.to)
+        (rw c.in-Line.is (line-told c.args.ndim.n _ _ c.point.result (rw c.in-Line.is at c.requires.window)
+        (c.line_square.ensures _ _ (rw c.in-Line.is at c.requires.line)))),
   ),
 )
 
@@ -30,7 +32,10 @@ returns-in-Cylinder g c = (
   (
     c.point-in-Cylinder.ensures,
     c.holds-in-Cylinder.ensures
-        ∙ ap (lies c.args.w.from c.args.w.to) (rw c.in-Cylinder.is (cylinder-told c.args.ndim.n _ _ c.point-in-Cylinder.result _ (rw c.in-Cylinder.is at c.requires.window) (c.line_square-in-Cylinder.ensures _ _ (rw c.in-Cylinder.is at c.requires.line)))),
+        ∙ ap (lies c.args.w.from c.args.w.to)
+        (rw c.in-Cylinder.is
+        (cylinder-told c.args.ndim.n _ _ c.point-in-Cylinder.result _ (rw c.in-Cylinder.is at c.requires.window)
+        (c.line_square-in-Cylinder.ensures _ _ (rw c.in-Cylinder.is at c.requires.line)))),
   ),
 )
 
@@ -41,7 +46,9 @@ returns-in-PlaneXY g c = (
   (
     c.point-in-PlaneXY.ensures,
     c.magnitude.ensures c.args.w.to
-        ∙ rw c.in-PlaneXY.is (plane-lies c.args.ndim.n 2 c.in-PlaneXY.z c.point-in-PlaneXY.result c.args.w c.args.ndim.two_or_three (rw c.in-PlaneXY.is at c.requires.fit) (omega arith) (rw c.in-PlaneXY.is at c.requires.window)),
+        ∙ rw c.in-PlaneXY.is
+        (plane-lies c.args.ndim.n 2 c.in-PlaneXY.z c.point-in-PlaneXY.result c.args.w c.args.ndim.two_or_three
+        (rw c.in-PlaneXY.is at c.requires.fit) (omega arith) (rw c.in-PlaneXY.is at c.requires.window)),
   ),
 )
 
@@ -52,7 +59,9 @@ returns-in-PlaneYZ g c = (
   (
     c.point-in-PlaneYZ.ensures,
     c.magnitude-in-PlaneYZ.ensures c.args.w.to
-        ∙ rw c.in-PlaneYZ.is (plane-lies c.args.ndim.n 0 c.in-PlaneYZ.x c.point-in-PlaneYZ.result c.args.w c.args.ndim.two_or_three (rw c.in-PlaneYZ.is at c.requires.fit) (omega arith) (rw c.in-PlaneYZ.is at c.requires.window)),
+        ∙ rw c.in-PlaneYZ.is
+        (plane-lies c.args.ndim.n 0 c.in-PlaneYZ.x c.point-in-PlaneYZ.result c.args.w c.args.ndim.two_or_three
+        (rw c.in-PlaneYZ.is at c.requires.fit) (omega arith) (rw c.in-PlaneYZ.is at c.requires.window)),
   ),
 )
 
@@ -63,6 +72,8 @@ returns g c = (
   (
     c.point-in-PlaneXZ.ensures,
     c.magnitude-in-PlaneXZ.ensures c.args.w.to
-        ∙ rw c.in-PlaneXZ.is (plane-lies c.args.ndim.n 1 c.in-PlaneXZ.y c.point-in-PlaneXZ.result c.args.w c.args.ndim.two_or_three (rw c.in-PlaneXZ.is at c.requires.fit) (omega arith) (rw c.in-PlaneXZ.is at c.requires.window)),
+        ∙ rw c.in-PlaneXZ.is
+        (plane-lies c.args.ndim.n 1 c.in-PlaneXZ.y c.point-in-PlaneXZ.result c.args.w c.args.ndim.two_or_three
+        (rw c.in-PlaneXZ.is at c.requires.fit) (omega arith) (rw c.in-PlaneXZ.is at c.requires.window)),
   ),
 )
