@@ -316,7 +316,7 @@ fn same_position(p: Position, q: Position) -> bool
 }
 
 // Whether two sheets of the same settings are the same bit for bit.
-// Kept: its floats are compared bit for bit, as above.
+// Kept: a derived `==` would compare its floats by `==`, which takes -0 for +0.
 fn same_sheet(s: GridSearch, t: GridSearch) -> bool
     ensures { result ≡ same_sheet s t }
 {
