@@ -132,6 +132,7 @@ impl Walk<'_> {
         // a copy, which the compiler may keep in registers while marks are written
         let walk = *self;
         let mut to = from;
+        // Kept: each turn goes on by a container's rows, and ends where no room is left: no range or list has these steps.
         while to.row < walk.library.used {
             let end = walk.container_end(to.place, to.row);
             let Some(marked) = walk.mark_container(to.row, end, to.marked, marks) else {

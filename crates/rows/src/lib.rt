@@ -57,7 +57,7 @@ fn is_layout_sound(library: Library) -> bool
 }
 
 // The row before one: its key plus one, and its id; or 0 where there is none.
-// Kept: with an Option of a pair, and the order of pairs, the walk takes 5.2 ns a row and not 4.4: past its aim (docs/PERFORMANCE.md).
+// Kept: with an Option of a pair, and its order, the walk takes 5.2 ns a row and not 4.4: past its aim (docs/PERFORMANCE.md).
 #[derive(Clone, Copy)]
 struct Before {
     bound: u64,

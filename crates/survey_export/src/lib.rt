@@ -63,6 +63,7 @@ fn put_mark(writer: &mut Writer, id: u64, decimals: Decimals)
 
 // The lines of the marks in use, from the buffer's start on, as far as the buffer goes. Refused: 28 at the first mark that is none of
 // decimals; what stands in the buffer then is of no use.
+// Kept: a type of marks whose used count is in their lists would be made for these functions alone, and taken apart in each.
 fn put_marks(writer: &mut Writer, lists: MarkLists) -> Result<(), Refusal>
     requires start { writer.old.at ≡ 0 }
     requires room { Room (lent lists) lists.used }

@@ -54,6 +54,7 @@ fn highest(values: &[f64]) -> f64
 }
 
 // The sheet of the marks in use: on three axes from the extremes, with every setting left out.
+// Kept: a type of marks whose used count is in their lists would be made for these functions alone, and taken apart in each.
 fn sheet_of_marks(lists: MarkLists) -> Result<GridSearch, Refusal>
     requires { Room (lent lists) lists.used }
     ensures { made result ≡ sheet_of_marks (marks_in (lent lists.entry)) }
@@ -69,6 +70,7 @@ fn sheet_of_marks(lists: MarkLists) -> Result<GridSearch, Refusal>
 // ---- the marks
 
 // Inserts the marks in use in order, up to the first that is turned away.
+// Kept: a type of marks whose used count is in their lists would be made for these functions alone, and taken apart in each.
 fn insert_marks(
     sheet: GridSearch,
     library: &mut LibraryMut,
@@ -86,6 +88,7 @@ fn insert_marks(
 }
 
 // What is printed of marks on a good sheet.
+// Kept: a type of marks whose used count is in their lists would be made for these functions alone, and taken apart in each.
 fn put_library(sheet: GridSearch, lists: MarkLists, text: &mut [u8; 70804]) -> usize
     requires good { sheet_ok sheet ≡ true }
     requires room { Room (lent lists) lists.used }
@@ -118,6 +121,7 @@ fn put_library(sheet: GridSearch, lists: MarkLists, text: &mut [u8; 70804]) -> u
 }
 
 // What is printed of marks.
+// Kept: a type of marks whose used count is in their lists would be made for these functions alone, and taken apart in each.
 fn put_marks(lists: MarkLists, text: &mut [u8; 70804]) -> usize
     requires { Room (lent lists) lists.used }
     ensures { Front (of_marks (marks_in (lent lists.entry))) text.new result }
