@@ -117,11 +117,13 @@ module _ (xmin xmax : List Float) (ndiv : Option ℕ) (tolerance border : Option
   unfolding new_in_c
   told_13 h = rw h (record { returned = refl; numbers-written = refl; floats-written = refl })
 
-  pub told-refused : (n : ℕ) → sheet_lengths numbers floats ≡ true → refused n ≡ new_sheet xmin xmax ndiv tolerance border → ToldSheet (new_in_c xmin xmax ndiv tolerance border numbers floats) n numbers numbers floats floats
+  pub told-refused : (n : ℕ) → sheet_lengths numbers floats ≡ true → refused n ≡ new_sheet xmin xmax ndiv tolerance border
+      → ToldSheet (new_in_c xmin xmax ndiv tolerance border numbers floats) n numbers numbers floats floats
   unfolding new_in_c
   told-refused n h e = rw (h, ← e) (record { returned = refl; numbers-written = refl; floats-written = refl })
 
-  pub told-sheet : (s : GridSearch) (numbers' : List ℕ) (floats' : List Float) → sheet_lengths numbers floats ≡ true → success s ≡ new_sheet xmin xmax ndiv tolerance border → numbers' ≡ numbers_of s → floats' ≡ floats_of s
+  pub told-sheet : (s : GridSearch) (numbers' : List ℕ) (floats' : List Float) → sheet_lengths numbers floats ≡ true
+      → success s ≡ new_sheet xmin xmax ndiv tolerance border → numbers' ≡ numbers_of s → floats' ≡ floats_of s
       → ToldSheet (new_in_c xmin xmax ndiv tolerance border numbers floats) 0 numbers numbers' floats floats'
   unfolding new_in_c
   told-sheet s numbers' floats' h e p q = rw (h, ← e) (record { returned = refl; numbers-written = p; floats-written = q })

@@ -124,7 +124,8 @@ module _ (l : MarkList) (buffer : List ℕ) where
   raised e k (Err d) h = rw h.1 (turned_away e k)
 
   -- put again, where they fit, they stand at the buffer's front
-  put_again : Accepted l (length buffer) → (r : Result Unit Refusal) (old new : Writer) → old.at ≡ 0 → old.buffer.now ≡ buffer → PutsMarks (marks_in l) old r new → new.buffer.now ≡ over (text_of (marks_in l)) buffer
+  put_again : Accepted l (length buffer) → (r : Result Unit Refusal) (old new : Writer) → old.at ≡ 0 → old.buffer.now ≡ buffer
+      → PutsMarks (marks_in l) old r new → new.buffer.now ≡ over (text_of (marks_in l)) buffer
   put_again a (Ok u) old new start same p = put-over (rw (start, same) at p.put.put) a.roomy
   put_again a (Err e) old new start same p = clash a.good p.0
 

@@ -59,7 +59,8 @@ module _ (l : MarkList) (text : List ℕ) where
       (λ d. let z : ◌≡◌ {A = ℕ} 0 1 = cc (rw (e, d) at f) in absurd (omega arith)))
 
   -- 24 or 13
-  pub refused-lists : (e : Refusal) → some (refusal_number e) ≡ fault (lists_tests l) → (r : Result ℕ ImportError) → IsErr r × IsErrAnd r (λ (d : ImportError). d ≡ error.Refused e) → Imports (importing l text) r l
+  pub refused-lists : (e : Refusal) → some (refusal_number e) ≡ fault (lists_tests l) → (r : Result ℕ ImportError) → IsErr r
+      × IsErrAnd r (λ (d : ImportError). d ≡ error.Refused e) → Imports (importing l text) r l
   unfolding importing settle_import lists_tests
   refused-lists e f (Ok n) h = absurd h.1
   refused-lists e f (Err d) h =

@@ -158,7 +158,9 @@ module _ (line : List ℕ) {f : Fields} (k : AreFields line f) where
   bad_height e = no_mark line (good_fields ∙ and-false (is_number f.number.now) (and-false (is_coordinate f.easting.now) (and-false (is_coordinate f.northing.now) (rw (no_value f.height.now e)))))
 
   pub bad_description : is_description f.description.now ≡ false → none ≡ mark_in line
-  bad_description e = no_mark line (good_fields ∙ and-false (is_number f.number.now) (and-false (is_coordinate f.easting.now) (and-false (is_coordinate f.northing.now) (and-false (is_coordinate f.height.now) e))))
+  bad_description e = no_mark line
+      (good_fields ∙ and-false (is_number f.number.now)
+      (and-false (is_coordinate f.easting.now) (and-false (is_coordinate f.northing.now) (and-false (is_coordinate f.height.now) e))))
 
   -- ---- all of them
 

@@ -32,4 +32,5 @@ unfolding marks_in
 returns-clause-inserts c =
     let a = c.args in
     let l = c.loop-i in
-    rw (all-taken (insert_one a.sheet) a.lists.used (mark_at (lent a.lists)) (lent_mut a.library.now) (lent_mut l.library) l.invariant.0 c.loop-i-test.false) (record { answers = refl; library-is = refl })
+    rw (all-taken (insert_one a.sheet) a.lists.used (mark_at (lent a.lists)) (lent_mut a.library.now) (lent_mut l.library) l.invariant.0
+    c.loop-i-test.false) (record { answers = refl; library-is = refl })

@@ -17,5 +17,6 @@ unfolding empty_library of_bits
 returns c =
     let a = c.args in
     let r = c.insert_marks-answer in
-    let p = of_lists a.sheet (inserted r.result) c.put_outcome.new.text c.put_outcome.result (lent_mut r.new.library) c.put_outcome.ensures (search rules) (search rules) (search rules) (search rules) (search rules) refl in
+    let p = of_lists a.sheet (inserted r.result) c.put_outcome.new.text c.put_outcome.result (lent_mut r.new.library) c.put_outcome.ensures
+    (search rules) (search rules) (search rules) (search rules) (search rules) refl in
     (p.0, p.1 ∙ on-sheet a.sheet c.requires.good (marks_in (lent a.lists)) (lent_mut r.new.library) r.result r.ensures.inserts)

@@ -29,12 +29,14 @@ pub returns-in-Err-Malformed : goal.returns-in-Err-Malformed
 unfolding empty_marks of_bits
 returns-in-Err-Malformed c =
     let p = c.put_refused_at.ensures in
-    let i = subst (λ (e : ImportError). Imports (importing empty_marks c.args.bytes.now) (Err e) (lent_mut c.import.new.lists)) c.in-Err-Malformed.field-0-is (rw (sym c.in-Err-Malformed.is) c.import.ensures.imports) in
+    let i = subst (λ (e : ImportError). Imports (importing empty_marks c.args.bytes.now) (Err e) (lent_mut c.import.new.lists))
+    c.in-Err-Malformed.field-0-is (rw (sym c.in-Err-Malformed.is) c.import.ensures.imports) in
     (p.0, cc (p.1, line_text_lem c.args.bytes.now (lent_mut c.import.new.lists) c.in-Err-Malformed.line i, c.in-Err-Malformed.line-is))
 
 pub returns-in-Err-Refused : goal.returns-in-Err-Refused
 unfolding empty_marks of_bits
 returns-in-Err-Refused c =
     let p = c.put_refused.ensures in
-    let i = subst (λ (e : ImportError). Imports (importing empty_marks c.args.bytes.now) (Err e) (lent_mut c.import.new.lists)) c.in-Err-Refused.field-0-is (rw (sym c.in-Err-Refused.is) c.import.ensures.imports) in
+    let i = subst (λ (e : ImportError). Imports (importing empty_marks c.args.bytes.now) (Err e) (lent_mut c.import.new.lists))
+    c.in-Err-Refused.field-0-is (rw (sym c.in-Err-Refused.is) c.import.ensures.imports) in
     (p.0, cc (p.1, refusal_text c.args.bytes.now (lent_mut c.import.new.lists) c.in-Err-Refused.reason i, c.in-Err-Refused.reason-is))

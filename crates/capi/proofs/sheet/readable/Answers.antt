@@ -19,4 +19,13 @@ pub returns : goal.returns
 unfolding readable of_bits
 returns c =
     let a = c.args in
-    rw (eq-eqb (length a.numbers.now) 8 c.if-numbers-ne-NUMBERS.false, eq-eqb (length a.floats.now) 17 c.if-floats-ne-FLOATS.false, c.is_ok.ensures.value ∙ made-axes (get_or a.numbers.now 0 0) c.try_from.result c.try_from.ensures.0, c.is_setting.ensures, c.is_setting-2.ensures, c.is_setting-3.ensures, c.same_bits.ensures, c.same_bits-2.ensures)
+    rw (
+      eq-eqb (length a.numbers.now) 8 c.if-numbers-ne-NUMBERS.false,
+      eq-eqb (length a.floats.now) 17 c.if-floats-ne-FLOATS.false,
+      c.is_ok.ensures.value ∙ made-axes (get_or a.numbers.now 0 0) c.try_from.result c.try_from.ensures.0,
+      c.is_setting.ensures,
+      c.is_setting-2.ensures,
+      c.is_setting-3.ensures,
+      c.same_bits.ensures,
+      c.same_bits-2.ensures,
+    )
