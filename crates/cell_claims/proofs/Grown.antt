@@ -1,16 +1,16 @@
 -- Of a binary64 value and one from 0 on, the rounded sum is not below the first.
 -- Assumes nothing.
-use Prim.Native.Nat.{ℕ, zero, suc, ◌+◌, ◌-◌, ◌*◌, ◌/◌, ◌%◌, ◌^◌, compare, ◌≤◌, ◌<◌, zero-le}
+use Prim.Native.Nat.{ℕ, zero, suc, ◌+◌, ◌-◌, ◌*◌, ◌^◌, ◌≤◌, ◌<◌, zero-le}
 use native.Mathlib.Nat.{le_trans, le_of_eq, lt_of_lt_of_le, lt_of_le_of_lt, mul-pos, mul-le-mul_right, lt_of_mul-lt-mul_right, mul-lt-mul_of_pos_right, mul_assoc, mul_comm, mul_right_comm, zero-mul}
 use native.Mathlib.Omega.{arith}
 use mathlib.Core.Path.{◌≡◌, refl, sym, ap, ◌∙◌, subst}
-use mathlib.Core.Bool.{Bool, true, false, cond, ◌&&◌, ◌||◌, false≢true}
+use mathlib.Core.Bool.{Bool, true, false, ◌&&◌, ◌||◌, false≢true}
 use lib.Dec.{T, ltb, eqb, lit<}
 use lib.Pow.{pow_pos}
 use lib.IntN.{ℤ, pos}
-use lib.Ieee.{Float, nan, inf, fin, Format, binary64, low, emax, prec, up, down, nearest, size, odd, units, round, sum, add, neg, le, fits}
+use lib.Ieee.{Float, nan, inf, fin, binary64, up, down, round, sum, add, neg, le, fits}
 use lib.Ieee.Bits.{is_true}
-use lib.Ieee.Fits.{down_pos, round_is, round-fits}
+use lib.Ieee.Fits.{down_pos, round-fits}
 use lib.Ieee.Exact.{round_exact}
 use lib.Ieee.Order.{round_mono}
 use borrow.Author.Tests.{ltb-false, eq-eqb}

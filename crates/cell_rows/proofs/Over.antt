@@ -5,7 +5,7 @@ use native.Mathlib.Numerals.{add-one}
 use native.Mathlib.Omega.{arith}
 use mathlib.Core.Path.{◌≡◌, refl, sym, ap, ap₂, ◌∙◌}
 use mathlib.Core.List.{List, [], ◌++◌, map, append_assoc, append-nil}
-use lib.ListN.{length, get_or, take, drop, set, length-append, length-drop, length-map, get_or-map, drop_of_length-le}
+use lib.ListN.{length, get_or, take, drop, set, length-drop, length-map, get_or-map, drop_of_length-le}
 use lib.Seq.{take_at, drop_at, length-take-le, take-suc, drop-cons, set_at, append_snoc, drop-drop, take-add, take-length, get_or_at}
 use borrow.Rule.Slice.PartMut.{put_mid}
 use Rattle.basics.specs.Lists.{over}

@@ -1,13 +1,13 @@
 -- Laws of a directory as it is lent: the entries that the lists hold, and what writing entries leaves in them.
 -- Assumes nothing.
-use Prim.Native.Nat.{ℕ, suc, ◌+◌, ◌-◌, ◌^◌, ◌≤◌, ◌<◌}
+use Prim.Native.Nat.{ℕ, suc, ◌+◌, ◌^◌, ◌≤◌, ◌<◌}
 use native.Mathlib.Numerals.{add-one}
 use native.Mathlib.Omega.{arith}
 use mathlib.Core.Path.{◌≡◌, refl, sym, ap, ap₂, ◌∙◌}
 use mathlib.Core.Bool.{Bool, true, false}
 use mathlib.Core.List.{List, [], ◌∷◌, ◌++◌, map}
-use lib.ListN.{length, get_or, take, drop, set, length-map, take-append-drop}
-use lib.Seq.{take-append_seam, drop-append-add, drop-drop}
+use lib.ListN.{length, get_or, take, set, length-map}
+use lib.Seq.{take-append_seam}
 use Rattle.basics.specs.Lists.{over}
 use Rattle.basics.proofs.Lists.{map-tab, tab-take}
 use Rattle.table.specs.Rows.{lead}

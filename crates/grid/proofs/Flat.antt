@@ -1,4 +1,5 @@
--- The Rust's formulas for a key and for its indices, which have a term or a quotient for each axis, are the recursive ones; what an index along an axis says of its ratio; and a position is outside where it is along some axis. Assumes nothing.
+-- The Rust's formulas for a key and for its indices, which have a term or a quotient for each axis, are the recursive ones; what an index along an axis says
+-- of its ratio; and a position is outside where it is along some axis. Assumes nothing.
 use Prim.Native.Nat.{ℕ, zero, suc, ◌+◌, ◌*◌, ◌/◌, ◌%◌, ◌<◌}
 use native.Mathlib.Nat.{mul-zero, add-zero, mul-one, mul_comm, mul_assoc, mul-add, mul-pos, mod-lt, mod-eq_of_lt, div-eq_of_lt, div-div-eq-div-mul, div-lt_iff_lt-mul, mod-add-div, add-mul-mod_self_left, add-mul-div_left, zero-add}
 use native.Mathlib.Omega.{arith}

@@ -1,4 +1,5 @@
--- Runs on document 01's sheet S, evaluated, without a directory and with one: ids 6, 7 and 8, refused calls, strikings, the history of 7 alone in another library, and the distances of a mark that moved.
+-- Runs on document 01's sheet S, evaluated, without a directory and with one: ids 6, 7 and 8, refused calls, strikings, the history of 7 alone in another
+-- library, and the distances of a mark that moved.
 use Prim.Native.Nat.{ℕ}
 use mathlib.Core.Path.{◌≡◌, refl}
 use mathlib.Core.Bool.{Bool, true, false}

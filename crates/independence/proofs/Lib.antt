@@ -1,4 +1,5 @@
--- The proof of demand 3. `Theorems` has a proof of each claim of specs/Claims.antt; `Independent` is its heart; `Holdings` and `Held` alone look at whether there is a directory; `Examples` evaluates some runs.
+-- The proof of demand 3. `Theorems` has a proof of each claim of specs/Claims.antt; `Independent` is its heart; `Holdings` and `Held` alone look at whether
+-- there is a directory; `Examples` evaluates some runs.
 pub mod Ids
 pub mod Holdings
 pub mod Held

@@ -1,4 +1,5 @@
--- Demand 3, clause by clause: what is claimed of every list of calls, insertions and strikings among them, on a library with its directory or without one; what a striking frees; and that a directory changes no answer.
+-- Demand 3, clause by clause: what is claimed of every list of calls, insertions and strikings among them, on a library with its directory or without one;
+-- what a striking frees; and that a directory changes no answer.
 -- `proofs/Theorems.antt` has a proof of each claim. Words in quotes are document 01's or, of a striking, document 02's.
 -- Assumes nothing.
 use Rattle.std.specs.Prelude.{ℕ, ◌+◌, ◌≤◌, ◌≡◌, Bool, true, false, cond, not, ◌||◌, List, [], ◌∷◌, ◌++◌, map, eqb, length, Float}

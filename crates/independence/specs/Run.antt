@@ -1,4 +1,5 @@
--- Calls on a library, with its directory or without one, one after the other. Each is answered by the definition that the contract of its function cites: `insertion`, `striking`, `search_answer`, `listing`,
+-- Calls on a library, with its directory or without one, one after the other. Each is answered by the definition that the contract of its function cites:
+-- `insertion`, `striking`, `search_answer`, `listing`,
 -- and with a directory the same through it.
 -- Assumes nothing.
 use Rattle.std.specs.Prelude.{ℕ, Bool, List, [], ◌∷◌, Float}

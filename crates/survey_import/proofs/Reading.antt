@@ -13,7 +13,7 @@ use lib.Dec.{leb, eqb}
 use borrow.Author.Tests.{ne_eqb}
 use lib.ListN.{length, get_or, take, drop, length-drop}
 use lib.Seq.{take_all}
-use Rattle.std.specs.List.{position, list_all}
+use Rattle.std.specs.List.{position}
 use Rattle.std.proofs.Common.{Some, None}
 use Rattle.std.specs.Prelude as prelude
 use Rattle.std.specs.Option.{is_some}
