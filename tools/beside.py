@@ -164,7 +164,7 @@ def main():
     for crate in crates:
         out = []
         for key in sorted(k for k in old if re.split(r"::|\.", k)[0] == crate):
-            where = key if key in new else renamed.get(key, key)
+            where = renamed[key] if renamed.get(key) in new else key if key in new else renamed.get(key, key)
             if where in new:
                 taken.add(where)
                 if " ".join(old[key]).split() == " ".join(new[where]).split() and where == key:
@@ -173,7 +173,7 @@ def main():
             else:
                 out.append((key, where if key in renamed else None, old[key], None))
         for key in sorted(k for k in new if re.split(r"::|\.", k)[0] == crate):
-            if key not in old and key not in renamed.values():
+            if key not in taken and key not in renamed.values():
                 out.append((None, key, None, new[key]))
         if not out:
             continue

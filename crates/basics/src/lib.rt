@@ -5,7 +5,6 @@ ghost use Rattle.std.specs.Prelude.{◌≡◌};
 ghost use Rattle.basics.specs.Answers.{refusal_number};
 
 // Why a call is turned away, with document 01's number.
-// Kept: the error of every call, one variant for each of document 01's refusals; no value stands in it.
 #[derive(Clone, Copy, Debug, PartialEq, Eq)]
 pub enum Refusal {
     // the dimension is not 2 or 3

@@ -62,7 +62,7 @@ fn put_catalogue(
 }
 
 // What is printed of the two files: it stands at the front of the buffer.
-// Kept: as `Display` it could not be told what is printed, since std does not promise that a write answers no error.
+// Kept: of a `Display` nothing could be proved: std does not promise that a write answers no error.
 fn put_text(rt: &impl Files, text: &mut [u8; 70804]) -> usize
     ensures prefix_len { IsPrefixLen result text.new }
     ensures printed { Printed (take result text.new) }

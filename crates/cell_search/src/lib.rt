@@ -97,6 +97,7 @@ fn find(index: SoundIndex, key: ContainerKey, x: Position) -> Option<Found>
 }
 
 // The container of a position, or the refusal 25, 2, 3, 11 or 17.
+// Kept: of the list of coordinates its length alone is judged here; `search_mesh` writes it.
 fn locate(index: SoundIndex, nzeta: usize, x: &[f64]) -> Result<ContainerKey, Refusal>
     ensures { asked result ≡ answer (fault (asked_tests index.entry.grid index.entry.mesh.mesh.coords.now nzeta x.now)) (cell_key (containers_of index.entry.grid) x.now) }
 {

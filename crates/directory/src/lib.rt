@@ -104,6 +104,7 @@ pub fn find_place(keys: &[u64], key: u64) -> Look
 }
 
 // A directory that is lent to be read.
+// Kept: the C interface lends each list by itself (include/gemlab.h).
 #[derive(Clone, Copy)]
 pub struct Directory<'a> {
     pub keys: &'a [u64],
@@ -234,7 +235,7 @@ impl DirectoryMut<'_> {
 }
 
 // What turns a library and the lists of its directory away, whatever stands in their places: 24 or 13.
-// Kept: sheet, rows and directory are lent apart, in other calls to be changed: a struct of all would be made in each call.
+// Kept: sheet, rows and directory are lent apart, to other calls mutably: a struct of the three would be made in each call.
 fn lists_fault(sheet: GridSearch, library: Library, directory: Directory) -> Result<(), Refusal>
     ensures { fault_in result ≡ fault (both_tests sheet (lent library.entry) (kept directory.entry)) }
 {
@@ -249,7 +250,7 @@ fn lists_fault(sheet: GridSearch, library: Library, directory: Directory) -> Res
 }
 
 // What turns a library and its directory away: 24, 13 or 29. 29 is judged by the places and the rows at their ends.
-// Kept: sheet, rows and directory are lent apart, in other calls to be changed: a struct of all would be made in each call.
+// Kept: sheet, rows and directory are lent apart, to other calls mutably: a struct of the three would be made in each call.
 pub fn directory_fault(
     sheet: GridSearch,
     library: Library,
@@ -265,7 +266,7 @@ pub fn directory_fault(
 }
 
 // Looks a key up: its place, if it has one, and how many places were read, at most 17. Refused with 24, 13 or 29.
-// Kept: sheet, rows and directory are lent apart, in other calls to be changed: a struct of all would be made in each call.
+// Kept: sheet, rows and directory are lent apart, to other calls mutably: a struct of the three would be made in each call.
 pub fn look_up(
     sheet: GridSearch,
     library: Library,
@@ -279,7 +280,7 @@ pub fn look_up(
 }
 
 // What turns a build away: 24, 13 or 12. 12 is judged before anything is written.
-// Kept: sheet, rows and directory are lent apart, in other calls to be changed: a struct of all would be made in each call.
+// Kept: sheet, rows and directory are lent apart, to other calls mutably: a struct of the three would be made in each call.
 fn build_fault(sheet: GridSearch, library: Library, directory: Directory) -> Result<(), Refusal>
     ensures { fault_in result ≡ fault (build_tests sheet (lent library.entry) (kept directory.entry)) }
 {

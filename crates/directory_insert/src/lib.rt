@@ -133,6 +133,7 @@ fn store_mark(
 // Puts a mark into a library that has a directory, and brings that up to date: every place past those in use is zero then.
 // Returns how many rows are in use. Refused with 24, 13, 29, 2, 3, 11, 17, or 12 where the rows or the places would be too many;
 // a refusal changes nothing.
+// Kept: what the request asks with, in its order; a struct of it would be taken apart at once.
 pub fn insert(
     sheet: GridSearch,
     library: &mut LibraryMut,

@@ -28,7 +28,7 @@ fn end_of(entry: Entry) -> usize
 
 // The choice among the rows near x, which is in the container of a key, where the library and its directory pass their check:
 // the directory tells where the container's rows begin and end, and no others are read.
-// Kept: sheet, rows and directory are lent apart, in other calls to be changed: a struct of all would be made in each call.
+// Kept: sheet, rows and directory are lent apart, to other calls mutably: a struct of the three would be made in each call.
 fn find_through(
     sheet: GridSearch,
     library: Library,
@@ -51,7 +51,7 @@ fn find_through(
 
 // The nearest of the marks near a position, as `search::search` finds it, through a directory: past the checks only the rows
 // of the position's container are read. Refused with 24, 13, 29, 2, 3, 11 or 17.
-// Kept: sheet, rows and directory are lent apart, in other calls to be changed: a struct of all would be made in each call.
+// Kept: sheet, rows and directory are lent apart, to other calls mutably: a struct of the three would be made in each call.
 pub fn search(
     sheet: GridSearch,
     library: Library,

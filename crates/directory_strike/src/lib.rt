@@ -24,6 +24,7 @@ fn count_others(ids: &[u64], id: u64) -> usize
 
 // How many of the `count` rows from `row` on are of other ids, where none of those up to `next` is of this one: most places have
 // no row of it.
+// Kept: `row` and `next` are numbers of rows, compared with each other: a slice from `row` on would lose them.
 fn rows_left(ids: &[u64], row: usize, count: usize, id: u64, next: usize) -> usize
     requires within { row + count ≤ length ids.now }
     requires quiet { Quiet id row next ids.now }
@@ -37,6 +38,7 @@ fn rows_left(ids: &[u64], row: usize, count: usize, id: u64, next: usize) -> usi
 
 // Where the next row of the id stands from `row` on, or the end of the rows, where none up to `next` is of it: looked for only
 // once `next` is passed. Callers need only that none stands before it.
+// Kept: `row` and `next` are numbers of rows, compared with each other: a slice from `row` on would lose them.
 fn next_from(ids: &[u64], id: u64, row: usize, next: usize) -> usize
     requires within { row ≤ length ids.now }
     requires quiet { Quiet id row next ids.now }
@@ -97,6 +99,7 @@ fn take_off(directory: &mut DirectoryMut, ids: &[u64], id: u64, from: usize)
 // Takes every row of an id out of the library, as `strike::strike` does, and leaves the directory of the rows of the other ids,
 // with zeros past it. Returns how many rows went. Refused with 24, 13, 29, or 26 where the id has no row; a refusal changes
 // nothing.
+// Kept: what the request asks with, in its order; a struct of it would be taken apart at once.
 pub fn strike(
     sheet: GridSearch,
     library: &mut LibraryMut,

@@ -190,7 +190,7 @@ pub fn read_sheet(rt: &impl Files, name: &[u8]) -> Result<GridSearch, Refusal>
 }
 
 // Inserts the marks of the next records of a file.
-// Kept: a struct of width, sheet and library would be made for one call, and the contracts name each of the three all the same.
+// Kept: width, sheet and library are of three crates; a struct of them would stand in each contract as its three fields.
 fn insert_part<R: Read>(
     reader: &mut R,
     width: usize,
@@ -209,7 +209,7 @@ fn insert_part<R: Read>(
 
 // Inserts the marks of an open file part by part, from a library with no row in use. A proved loop has to end, and nothing says that a
 // file does: so the loop has a number of turns that no file uses up.
-// Kept: a struct of width, sheet and library would be made for one call, and the contracts name each of the three all the same.
+// Kept: width, sheet and library are of three crates; a struct of them would stand in each contract as its three fields.
 fn insert_parts<R: Read>(
     reader: &mut R,
     width: usize,
@@ -232,7 +232,7 @@ fn insert_parts<R: Read>(
 
 // Inserts the marks of the file of this name, whose records have this width, into a library. 13 where no record of that width
 // fits into a part.
-// Kept: a struct of width, sheet and library would be made for one call, and the contracts name each of the three all the same.
+// Kept: width, sheet and library are of three crates; a struct of them would stand in each contract as its three fields.
 pub fn insert_file(
     rt: &impl Files,
     name: &[u8],

@@ -196,7 +196,7 @@ pub fn ceil(x: f64) -> f64
 }
 
 // The magnitude.
-// Kept: `within` and the distance of a plane are told by `abs_of`, and std tells its `abs` by other words.
+// Kept: only a name for std's `abs`: contracts speak of `abs_of`, and std's of its own definition.
 #[tactic(auto, using(crate::proofs::Choices::magnitude))]
 pub fn abs(x: f64) -> f64
     ensures { result ≡ abs_of x }

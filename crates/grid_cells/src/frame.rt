@@ -26,6 +26,7 @@ fn divisions_along(side_length: f64, xmin: f64, xmax: f64) -> u64
 }
 
 // The divisions along each axis.
+// Kept: a sheet and an index have the corners as two fields, as gemlab has: a struct of both would be made at each call.
 fn divide(ndim: Dimension, side_length: f64, xmin: Position, xmax: Position) -> Divisions
     ensures { result ≡ divisions_of (cell_divisions side_length (axes ndim.n xmin) (axes ndim.n xmax)) }
 {
@@ -38,6 +39,7 @@ fn divide(ndim: Dimension, side_length: f64, xmin: Position, xmax: Position) -> 
 }
 
 // What turns the corners and the divisions away: 22 or 6.
+// Kept: a sheet and an index have the corners as two fields, as gemlab has: a struct of both would be made at each call.
 fn divisions_fault(
     ndim: Dimension,
     low: Position,

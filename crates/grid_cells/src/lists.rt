@@ -3,6 +3,7 @@ ghost use Rattle.std.specs.Prelude.{◌≡◌};
 ghost use Rattle.grid_cells.specs.Lent.{lent, lent_mut};
 
 // To be read.
+// Kept: the C interface lends each list by itself (include/gemlab.h).
 #[derive(Clone, Copy)]
 pub struct IndexLists<'a> {
     pub keys: &'a [u64],

@@ -57,7 +57,7 @@ impl Walk<'_> {
     }
 
     // Whether a row counts, where its container is near.
-    // Kept: no ghost field of `Walk`: such a fact has one proof at most, and `MadeFor` says of a plane one of two things.
+    // Kept: no ghost field of `Walk`: one has to have one proof at most, and `MadeFor` is an `or` where the place is a plane.
     fn row_counts(self, row: usize) -> bool
         requires made { MadeFor self.sheet self.ready }
         requires in_use { row < self.library.used }
@@ -75,7 +75,7 @@ impl Walk<'_> {
     // Puts the rows of a near container that count behind the marked ones: answers how many are marked then, or nothing where
     // no place would be left for one more. Each row is written there, and stays where it counts, so that no branch depends on
     // that.
-    // Kept: no ghost field of `Walk`: such a fact has one proof at most, and `MadeFor` says of a plane one of two things.
+    // Kept: no ghost field of `Walk`: one has to have one proof at most, and `MadeFor` is an `or` where the place is a plane.
     fn mark_rows(self, first: usize, end: usize, marked: usize, marks: &mut [u16]) -> Option<usize>
         requires made { MadeFor self.sheet self.ready }
         requires in_use { (first ≤ end) × (end ≤ self.library.used) }
@@ -97,7 +97,7 @@ impl Walk<'_> {
     }
 
     // The same for a container that may be far: then none of its rows counts, and it is passed at once.
-    // Kept: no ghost field of `Walk`: such a fact has one proof at most, and `MadeFor` says of a plane one of two things.
+    // Kept: no ghost field of `Walk`: one has to have one proof at most, and `MadeFor` is an `or` where the place is a plane.
     fn mark_container(
         self,
         first: usize,
@@ -122,7 +122,7 @@ impl Walk<'_> {
 
     // Goes on over the containers, and puts their rows that count behind the marked ones: up to the last row, or to a container
     // with which no place would be left for one more.
-    // Kept: no ghost field of `Walk`: such a fact has one proof at most, and `MadeFor` says of a plane one of two things.
+    // Kept: no ghost field of `Walk`: one has to have one proof at most, and `MadeFor` is an `or` where the place is a plane.
     fn gather(&self, from: Reached, marks: &mut [u16]) -> Reached
         requires made { MadeFor self.now.sheet self.now.ready }
         requires walked_from { Walked self.now.sheet self.now.ready.place self.now.filter (lent self.now.library) self.now.counts from marks.old }
@@ -132,7 +132,7 @@ impl Walk<'_> {
         // a copy, which the compiler may keep in registers while marks are written
         let walk = *self;
         let mut to = from;
-        // Kept: each turn goes on by a container's rows, and ends where no room is left: no range or list has these steps.
+        // Kept: where no room is left the walk stops, and another goes on from `Reached`: an iterator would hide where it stands.
         while to.row < walk.library.used {
             let end = walk.container_end(to.place, to.row);
             let Some(marked) = walk.mark_container(to.row, end, to.marked, marks) else {
@@ -149,7 +149,7 @@ impl Walk<'_> {
 
     // Goes on where there was no room for more than the `few` marks: here every row has room. The 128 KiB of its marks are
     // taken where it is called only, which is why the compiler may not merge it into its caller.
-    // Kept: no ghost field of `Walk`: such a fact has one proof at most, and `MadeFor` says of a plane one of two things.
+    // Kept: no ghost field of `Walk`: one has to have one proof at most, and `MadeFor` is an `or` where the place is a plane.
     #[inline(never)]
     fn list_many(&self, from: Reached, few: &[u16], list: &mut [u64]) -> Result<usize, Refusal>
         requires made { MadeFor self.now.sheet self.now.ready }
@@ -163,7 +163,7 @@ impl Walk<'_> {
     }
 
     // The ids of the rows on the place, ascending, once each: how many they are, or 14.
-    // Kept: no ghost field of `Walk`: such a fact has one proof at most, and `MadeFor` says of a plane one of two things.
+    // Kept: no ghost field of `Walk`: one has to have one proof at most, and `MadeFor` is an `or` where the place is a plane.
     #[inline(always)]
     fn list(&self, list: &mut [u64]) -> Result<usize, Refusal>
         requires made { MadeFor self.now.sheet self.now.ready }

@@ -27,6 +27,7 @@ pub struct Mesh<'a, 'b> {
 #[derive(Clone, Copy)]
 pub struct WholeMesh<'a, 'b> {
     pub ndim: Dimension,
+    // whose own dimension is not read
     pub mesh: Mesh<'a, 'b>,
     pub ghost whole: { broken_mesh ndim.n (seen mesh) ≡ false },
 }

@@ -57,7 +57,7 @@ fn is_layout_sound(library: Library) -> bool
 }
 
 // The row before one: its key plus one, and its id; or 0 where there is none.
-// Kept: with an Option of a pair, and its order, the walk takes 5.2 ns a row and not 4.4: past its aim (docs/PERFORMANCE.md).
+// Kept: with an Option of a pair, and its order, a row takes a fifth longer: in 3D past plain Rust's walk (docs/PERFORMANCE.md).
 #[derive(Clone, Copy)]
 struct Before {
     bound: u64,
@@ -157,7 +157,7 @@ pub fn library_fault(sheet: GridSearch, library: Library) -> Result<(), Refusal>
 }
 
 // What turns a position away before its container is looked for: 2, 3 or 11.
-// Kept: a sheet has its number of axes as C hands it in; a type that holds this would be made of the sheet at each call.
+// Kept: a sheet from C may have any number of axes; a type of sheets with 2 or 3 would be made of it by each of the callers.
 pub fn position_fault(sheet: GridSearch, x: &[f64]) -> Result<(), Refusal>
     requires { dimension sheet.ndim ≡ true }
     ensures { fault_in result ≡ fault (position_tests sheet x.now []) }
@@ -176,6 +176,7 @@ pub fn position_fault(sheet: GridSearch, x: &[f64]) -> Result<(), Refusal>
 }
 
 // What turns a call at a position away before its container is looked for: 24, 13, 2, 3 or 11.
+// Kept: what the request asks with, in its order; a struct of it would be taken apart at once.
 pub fn call_fault(sheet: GridSearch, library: Library, x: &[f64]) -> Result<(), Refusal>
     ensures { fault_in result ≡ fault (library_tests sheet (lent library.entry) ++ position_tests sheet x.now []) }
 {
@@ -185,6 +186,7 @@ pub fn call_fault(sheet: GridSearch, library: Library, x: &[f64]) -> Result<(), 
 
 // Judges an insertion into a library that passes 24 and 13, and finds the containers that the mark goes into: 2, 3, 11, 17 and
 // 12, which is judged before anything is written.
+// Kept: what the request asks with, in its order; a struct of it would be taken apart at once.
 pub fn judge_mark(
     sheet: GridSearch,
     library: Library,
@@ -204,6 +206,7 @@ pub fn judge_mark(
 
 // Puts a mark into the library: into its container, and into those of its halo corners that fall within the sheet. A row
 // of the mark that is there takes the new coordinates. Returns how many rows are in use then. A refusal changes nothing.
+// Kept: what the request asks with, in its order; a struct of it would be taken apart at once.
 pub fn insert(
     sheet: GridSearch,
     library: &mut LibraryMut,

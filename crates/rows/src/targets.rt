@@ -33,6 +33,7 @@ fn halo_corner(x: Position, tolerance: f64, c: usize) -> Position
 }
 
 // Containers, each once: nine at most, that of a position and those of eight corners.
+// Kept: no heap, so an array with a count.
 #[derive(Drop)]
 pub struct Targets {
     keys: [u64; 9],
@@ -78,7 +79,7 @@ impl Targets {
 
     // Adds the container of a point, unless the point is outside the sheet. None where a ratio of the point exceeds its
     // divisions.
-    // Kept: a sheet has its number of axes as C hands it in; a type that holds this would be made of the sheet at each call.
+    // Kept: a sheet from C may have any number of axes; a type of sheets with 2 or 3 would be made of it by each of the callers.
     fn look_at(&mut self, sheet: GridSearch, point: Position) -> Option<()>
         requires sheet { Divided sheet }
         requires room { length self.old < 9 }
@@ -100,7 +101,7 @@ impl Targets {
 
     // The containers of a mark at x: those of x and of the halo corners, as far as these points are on the sheet. None where
     // a ratio of one of them exceeds its divisions.
-    // Kept: a sheet has its number of axes as C hands it in; a type that holds this would be made of the sheet at each call.
+    // Kept: a sheet from C may have any number of axes; a type of sheets with 2 or 3 would be made of it by each of the callers.
     pub fn find(sheet: GridSearch, x: Position) -> Option<Targets>
         requires { Divided sheet }
         ensures { result ≡ look_all sheet (Some []) (coords sheet.ndim x ∷ halo (tolerance_of sheet.tolerance) (coords sheet.ndim x)) }

@@ -36,7 +36,7 @@ fn takes_place(tol_dist: f64, within: f64, best: Option<ItemId>, least: f64, squ
 
 // The choice among the rows near x, which is in the container of a key: the nearest, and the lowest id among equally near
 // ones. The container's rows stand together from `from` on, and their ids ascend.
-// Kept: a sheet has its number of axes as C hands it in; a type that holds this would be made of the sheet at each call.
+// Kept: a sheet from C may have any number of axes; a type of sheets with 2 or 3 would be made of it by each of the callers.
 pub fn find_from(
     sheet: GridSearch,
     library: Library,
@@ -70,6 +70,7 @@ pub fn find_from(
 }
 
 // The nearest of the marks near a position, and the one of the lowest id among equally near ones; or none, or the refusal.
+// Kept: what the request asks with, in its order; a struct of it would be taken apart at once.
 pub fn search(sheet: GridSearch, library: Library, x: &[f64]) -> Result<Option<ItemId>, Refusal>
     ensures { found result ≡ search_answer sheet (lent library.entry) x.now }
 {

@@ -50,6 +50,7 @@ pub fn remove(library: &mut LibraryMut, id: u64, from: usize)
 // Takes every row of an id out of the library, and tells how many went. The rows of other ids close up in their order, and
 // every entry past them is 0 or +0: their room is free for later insertions. Refused with 24, 13, or 26 where the id has no
 // row; a refusal changes nothing.
+// Kept: what the request asks with, in its order; a struct of it would be taken apart at once.
 pub fn strike(sheet: GridSearch, library: &mut LibraryMut, id: ItemId) -> Result<usize, Refusal>
     ensures strikes { Gives (striking sheet (lent_mut library.old) id.0) (struck result) (lent_mut library.new) }
     ensures same_lists { SameLists library.old library.new }

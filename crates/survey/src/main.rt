@@ -35,7 +35,7 @@ fn put_input(input: Result<usize, InputError>, bytes: &[u8], text: &mut [u8; 708
 }
 
 // What is printed of standard input: it stands at the front of the buffer.
-// Kept: as `Display` it could not be told what is printed, since std does not promise that a write answers no error.
+// Kept: of a `Display` nothing could be proved: std does not promise that a write answers no error.
 fn put_text(stdin: &impl io::Input, text: &mut [u8; 70804]) -> usize
     ensures prefix_len { IsPrefixLen result text.new }
     ensures printed { Printed (take result text.new) }

@@ -46,7 +46,7 @@ impl<'a> Writer<'a> {
     }
 
     // A number in decimal.
-    // Kept: with `write!` the proof does not close: std says what it wrote where it answers no error, and never that it answers none.
+    // Kept: with `write!` the proof does not close: std never says that it answers no error.
     pub fn put_decimal(&mut self, n: u64)
         requires { self.old.at + length (decimal n) < 2 ^ 64 }
         ensures { Puts (decimal n) self.old self.new }

@@ -23,7 +23,7 @@ const BELOW: f64 = 0.9999999999999;
 // What is known of the distances that lie from one bound to another, each told by its square: the root, less the radius where
 // there is one. Those whose squares are from `low` to `high` lie there, and those whose squares are up to `under` or from `over`
 // on do not.
-// Kept: a NaN for a square not known: a comparison with it is false, as it has to be then, and an Option would need a case at each.
+// Kept: a NaN for a square not known: comparing with it gives false, as it should; an Option would need a case at each.
 #[derive(Clone, Copy)]
 pub struct Window {
     pub radius: Option<f64>,
