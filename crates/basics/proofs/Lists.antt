@@ -53,10 +53,10 @@ module _ {A : Type 0} where
 -- ---- the same tests in std's words
 
 module _ {A : Type 0} where
-  pub all-list : (p : A → Bool) (l : List A) → all p l ≡ list_all p l
+  pub all_listed : (p : A → Bool) (l : List A) → all p l ≡ list_all p l
   unfolding all
-  all-list p [] = refl
-  all-list p (x ∷ l) = ap (λ (b : Bool). p x && b) (all-list p l)
+  all_listed p [] = refl
+  all_listed p (x ∷ l) = ap (λ (b : Bool). p x && b) (all_listed p l)
 
   pub any-list : (p : A → Bool) (l : List A) → any p l ≡ list_any p l
   unfolding any
