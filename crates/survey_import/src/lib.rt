@@ -86,7 +86,7 @@ fn is_plain(byte: u8) -> bool
 }
 
 // Whether what stands after the fourth comma is a description, with no comma more.
-#[tactic(auto, using(crate::proofs::Reading::all_listed), unfolding(crate::specs::Marks::is_description))]
+#[tactic(auto, unfolding(crate::specs::Marks::is_description))]
 fn is_description(rest: &[u8]) -> bool
     ensures { result ≡ is_description rest.now }
 {
