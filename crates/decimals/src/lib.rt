@@ -1,7 +1,7 @@
 // Numbers and coordinates in the text of surveyors: read from a field of a line, and put into a lent buffer.
 #![tactic(auto)]
 
-ghost use Rattle.std.specs.Prelude.{◌≡◌, ◌==◌, ◌+◌, ◌^◌, ◌<◌, length, MatchOption, position};
+ghost use Rattle.std.specs.Prelude.{◌≡◌, ◌+◌, ◌^◌, ◌<◌, length, MatchOption};
 ghost use Rattle.std.proofs.Math.Option.{none};
 ghost use Rattle.text.specs.Writers.{Puts};
 ghost use Rattle.decimals.specs.Decimals.{number_in, number_read, millimetres_in, coordinate_read, magnitude_text, coordinate_text};
@@ -56,18 +56,12 @@ fn read_decimals(field: &[u8]) -> Option<u64>
     })
 }
 
-fn point_in(field: &[u8]) -> Option<usize>
-    ensures { result ≡ position (λ byte. byte == 46) field.now }
-{
-    field.iter().position(|byte| *byte == b'.')
-}
-
 // What stands before the point, and the thousandths after it: a second point is no digit.
 fn cut_at_point(field: &[u8]) -> Option<(&[u8], u64)>
     ensures { MatchOption result (thousandths_in field.now ≡ none)
         (λ cut. IsCut field.now cut.0.now cut.1) }
 {
-    let Some(point) = point_in(field) else {
+    let Some(point) = lines::find(field, b'.') else {
         return Some((field, 0));
     };
     let decimals = read_decimals(&field[point + 1..])?;

@@ -1,8 +1,15 @@
-// The lines of a text.
+// A byte in a text, and a text's lines.
 #![tactic(auto)]
 
 ghost use Rattle.std.specs.Prelude.{◌≡◌, ◌==◌, [], ◌∷◌, MatchOption, position};
 ghost use Rattle.lines.specs.Lines.{without_cr, lines};
+
+// Where the first byte that equals this one stands: none where there is no such byte.
+pub fn find(bytes: &[u8], byte: u8) -> Option<usize>
+    ensures { result ≡ position (λ b. b == byte) bytes.now }
+{
+    bytes.iter().position(|b| *b == byte)
+}
 
 // An iterator over the lines of a text, each without its LF or CR LF.
 #[derive(Clone, Copy)]
@@ -44,18 +51,11 @@ fn first_line(text: &[u8]) -> Option<(&[u8], &[u8])>
     if text.is_empty() {
         return None;
     }
-    let Some(end) = line_feed(text) else {
+    let Some(end) = find(text, b'\n') else {
         // the last line, which lacks its end
         return Some((text, b""));
     };
     Some((stripped(&text[..end]), &text[end + 1..]))
-}
-
-// Where the first LF stands.
-fn line_feed(text: &[u8]) -> Option<usize>
-    ensures { result ≡ position (λ byte. byte == 10) text.now }
-{
-    text.iter().position(|byte| *byte == b'\n')
 }
 
 // What stands before an LF, without the CR that belongs to the line's end.

@@ -24,6 +24,13 @@ pub struct MarkLists<'a> {
     pub used: usize,
 }
 
+// Marks whose used count is in their lists.
+#[derive(Clone, Copy)]
+pub struct SoundMarks<'a> {
+    pub lists: MarkLists<'a>,
+    pub ghost room: { Room (lent lists) lists.used },
+}
+
 impl MarkLists<'_> {
     // How many entries each list has.
     fn lengths(self) -> [usize; 4]

@@ -5,13 +5,12 @@ ghost use Rattle.std.specs.Prelude.{◌≡◌, ◌+◌, ◌^◌, ◌≤◌, ◌<
 ghost use Rattle.text.specs.Writers.{Puts};
 ghost use Rattle.decimals.specs.Decimals.{coordinate_text};
 ghost use Rattle.mark_lists.specs.MarkLists.{marks_in};
-ghost use Rattle.mark_lists.specs.Posts.{Room};
 ghost use Rattle.mark_lists.specs.Lent.{lent};
 ghost use Rattle.survey_export.specs.Export.{line_text, exporting, Exports};
 ghost use Rattle.survey_export.specs.Posts.{with_comma, PutsMarks};
 
 use basics::Refusal;
-use mark_lists::MarkLists;
+use mark_lists::{MarkLists, SoundMarks};
 use millimetres::Millimetres;
 use records::Record;
 use text::Writer;
@@ -63,16 +62,14 @@ fn put_mark(writer: &mut Writer, id: u64, decimals: Decimals)
 
 // The lines of the marks in use, from the buffer's start on, as far as the buffer goes. Refused: 28 at the first mark that is none of
 // decimals; what stands in the buffer then is of no use.
-// Kept: a type of marks whose used count is in their lists would be made for these functions alone, and taken apart in each.
-fn put_marks(writer: &mut Writer, lists: MarkLists) -> Result<(), Refusal>
+fn put_marks(writer: &mut Writer, marks: SoundMarks) -> Result<(), Refusal>
     requires start { writer.old.at ≡ 0 }
-    requires room { Room (lent lists) lists.used }
-    requires few { lists.used ≤ 65536 }
+    requires few { marks.lists.used ≤ 65536 }
     ensures same { writer.new.buffer.ghost_name ≡ writer.old.buffer.ghost_name }
-    ensures puts { PutsMarks (marks_in (lent lists.entry)) writer.old result writer.new }
+    ensures puts { PutsMarks (marks_in (lent marks.entry.lists)) writer.old result writer.new }
 {
-    for i in 0..lists.used {
-        let mark = lists.mark(i);
+    for i in 0..marks.lists.used {
+        let mark = marks.lists.mark(i);
         let decimals = Decimals::of(mark).ok_or(Refusal::NoDecimal)?;
         put_mark(writer, mark.id, decimals);
     }
@@ -89,13 +86,14 @@ pub fn export(lists: MarkLists, text: &mut [u8]) -> Result<usize, Refusal>
     if lists.used > lists.ids.len() {
         return Err(Refusal::Damaged);
     }
+    let marks = SoundMarks { lists };
     let mut measure = Writer::new(&mut []);
-    put_marks(&mut measure, lists)?;
+    put_marks(&mut measure, marks)?;
     let length = measure.at;
     if length > text.len() {
         return Err(Refusal::Short);
     }
     let mut writer = Writer::new(text);
-    put_marks(&mut writer, lists).unwrap();
+    put_marks(&mut writer, marks).unwrap();
     Ok(length)
 }

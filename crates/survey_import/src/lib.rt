@@ -1,7 +1,7 @@
 // Request d of document 02: point lists from the surveyors. A text of lines becomes marks in lent lists.
 #![tactic(auto)]
 
-ghost use Rattle.std.specs.Prelude.{◌≡◌, true, [], ◌∷◌, ◌<◌, map, length, MatchOption, position, ◌==◌};
+ghost use Rattle.std.specs.Prelude.{◌≡◌, true, [], ◌∷◌, ◌<◌, map, length, MatchOption};
 ghost use Rattle.basics.specs.Lists.{all};
 ghost use Rattle.lines.specs.Lines.{lines};
 ghost use Rattle.lines.specs.Pieces.{split};
@@ -52,14 +52,8 @@ fn cut(text: &[u8]) -> Option<(&[u8], &[u8])>
     ensures { MatchOption result (split 44 text.now ≡ text.now ∷ [])
         (λ parts. split 44 text.now ≡ parts.0.now ∷ split 44 parts.1.now) }
 {
-    let comma = comma_in(text)?;
+    let comma = lines::find(text, b',')?;
     Some((&text[..comma], &text[comma + 1..]))
-}
-
-fn comma_in(text: &[u8]) -> Option<usize>
-    ensures { result ≡ position (λ byte. byte == 44) text.now }
-{
-    text.iter().position(|byte| *byte == b',')
 }
 
 fn fields_of(line: &[u8]) -> Option<Fields<'_>>
@@ -86,7 +80,7 @@ fn is_plain(byte: u8) -> bool
 }
 
 // Whether what stands after the fourth comma is a description, with no comma more.
-#[tactic(auto, using(basics::proofs::Lists::all_listed), unfolding(crate::specs::Marks::is_description))]
+#[tactic(auto, unfolding(crate::specs::Marks::is_description))]
 fn is_description(rest: &[u8]) -> bool
     ensures { result ≡ is_description rest.now }
 {

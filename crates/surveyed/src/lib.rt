@@ -9,14 +9,13 @@ ghost use Rattle.table.specs.Lent.{lent_mut, SameLists};
 ghost use Rattle.loading.specs.Loading.{insert_one, insert_all, Inserts};
 ghost use Rattle.text.specs.Text.{Front};
 ghost use Rattle.mark_lists.specs.MarkLists.{marks_in};
-ghost use Rattle.mark_lists.specs.Posts.{Room};
 ghost use Rattle.mark_lists.specs.Lent.{lent};
 ghost use Rattle.surveyed.specs.Posts.{Chosen};
 ghost use Rattle.surveyed.specs.Surveyed.{lowest_of, highest_of, sheet_of_marks, on_sheet, of_marks, of_text};
 
 use basics::Refusal;
 use grid_search::GridSearch;
-use mark_lists::{MarkLists, MarkListsMut};
+use mark_lists::{MarkListsMut, SoundMarks};
 use survey_import::ImportError;
 use table::{Library, LibraryMut};
 
@@ -54,11 +53,10 @@ fn highest(values: &[f64]) -> f64
 }
 
 // The sheet of the marks in use: on three axes from the extremes, with every setting left out.
-// Kept: a type of marks whose used count is in their lists would be made for these functions alone, and taken apart in each.
-fn sheet_of_marks(lists: MarkLists) -> Result<GridSearch, Refusal>
-    requires { Room (lent lists) lists.used }
-    ensures { made result ≡ sheet_of_marks (marks_in (lent lists.entry)) }
+fn sheet_of_marks(marks: SoundMarks) -> Result<GridSearch, Refusal>
+    ensures { made result ≡ sheet_of_marks (marks_in (lent marks.entry.lists)) }
 {
+    let lists = marks.lists;
     let xs = &lists.xs[..lists.used];
     let ys = &lists.ys[..lists.used];
     let zs = &lists.zs[..lists.used];
@@ -70,29 +68,25 @@ fn sheet_of_marks(lists: MarkLists) -> Result<GridSearch, Refusal>
 // ---- the marks
 
 // Inserts the marks in use in order, up to the first that is turned away.
-// Kept: a type of marks whose used count is in their lists would be made for these functions alone, and taken apart in each.
 fn insert_marks(
     sheet: GridSearch,
     library: &mut LibraryMut,
-    lists: MarkLists,
+    marks: SoundMarks,
 ) -> Result<usize, Refusal>
-    requires { Room (lent lists) lists.used }
-    ensures inserts { Inserts (insert_all (insert_one sheet) (lent_mut library.old) (marks_in (lent lists.entry))) result (lent_mut library.new) }
+    ensures inserts { Inserts (insert_all (insert_one sheet) (lent_mut library.old) (marks_in (lent marks.entry.lists))) result (lent_mut library.new) }
     ensures same_lists { SameLists library.old library.new }
 {
-    for i in 0..lists.used {
-        let mark = lists.mark(i);
+    for i in 0..marks.lists.used {
+        let mark = marks.lists.mark(i);
         loading::insert_mark(sheet, library, mark)?;
     }
     Ok(library.used)
 }
 
 // What is printed of marks on a good sheet.
-// Kept: a type of marks whose used count is in their lists would be made for these functions alone, and taken apart in each.
-fn put_library(sheet: GridSearch, lists: MarkLists, text: &mut [u8; 70804]) -> usize
-    requires good { sheet_ok sheet ≡ true }
-    requires room { Room (lent lists) lists.used }
-    ensures { Front (on_sheet (success sheet) (marks_in (lent lists.entry))) text.new result }
+fn put_library(sheet: GridSearch, marks: SoundMarks, text: &mut [u8; 70804]) -> usize
+    requires { sheet_ok sheet ≡ true }
+    ensures { Front (on_sheet (success sheet) (marks_in (lent marks.entry.lists))) text.new result }
 {
     let mut keys = [0u64; 1024];
     let mut ids = [0u64; 1024];
@@ -107,7 +101,7 @@ fn put_library(sheet: GridSearch, lists: MarkLists, text: &mut [u8; 70804]) -> u
         zs: &mut zs,
         used: 0,
     };
-    let answer = insert_marks(sheet, &mut library, lists);
+    let answer = insert_marks(sheet, &mut library, marks);
     let used = library.used;
     let library = Library {
         keys: &keys,
@@ -121,13 +115,11 @@ fn put_library(sheet: GridSearch, lists: MarkLists, text: &mut [u8; 70804]) -> u
 }
 
 // What is printed of marks.
-// Kept: a type of marks whose used count is in their lists would be made for these functions alone, and taken apart in each.
-fn put_marks(lists: MarkLists, text: &mut [u8; 70804]) -> usize
-    requires { Room (lent lists) lists.used }
-    ensures { Front (of_marks (marks_in (lent lists.entry))) text.new result }
+fn put_marks(marks: SoundMarks, text: &mut [u8; 70804]) -> usize
+    ensures { Front (of_marks (marks_in (lent marks.entry.lists))) text.new result }
 {
-    match sheet_of_marks(lists) {
-        Ok(sheet) => put_library(sheet, lists, text),
+    match sheet_of_marks(marks) {
+        Ok(sheet) => put_library(sheet, marks, text),
         Err(reason) => outcome::put_refused(reason, text),
     }
 }
@@ -148,7 +140,12 @@ pub fn put_survey(bytes: &[u8], text: &mut [u8; 70804]) -> usize
         used: 0,
     };
     match survey_import::import(bytes, &mut lists) {
-        Ok(_) => put_marks(lists.as_lists(), text),
+        Ok(_) => {
+            let marks = SoundMarks {
+                lists: lists.as_lists(),
+            };
+            put_marks(marks, text)
+        }
         Err(ImportError::Malformed(line)) => {
             outcome::put_refused_at(Refusal::Malformed, line as u64, text)
         }

@@ -12,8 +12,8 @@ returns-in_err-fault c = raised _ _ _ (fault_lists _ _ c.in_err-fault.ensures) _
 pub returns-then-lists : goal.returns-then-lists
 returns-then-lists c = turned_away _ _ _ (fault_past _ c.in_ok-fault.ensures c.if-lists.true _)
 
-pub put_marks-requires-clause-room : goal.put_marks-requires-clause-room
-put_marks-requires-clause-room c = room-used _ (sound _ c.in_ok-fault.ensures c.if-lists.false)
+pub invariant_of-marks : goal.invariant_of-marks
+invariant_of-marks c = record { room = room-used _ (sound _ c.in_ok-fault.ensures c.if-lists.false) }
 
 pub put_marks-requires-clause-few : goal.put_marks-requires-clause-few
 put_marks-requires-clause-few c = most (lent c.args.lists) (sound _ c.in_ok-fault.ensures c.if-lists.false)
@@ -27,9 +27,6 @@ pub returns-then-length-text : goal.returns-then-length-text
 returns-then-length-text c =
     let s = sound (lent c.args.lists) c.in_ok-fault.ensures c.if-lists.false in
     turned_away _ _ _ (fault_short _ c.new-measure.ensures.start c.in_ok-put_marks.ensures.puts s _ c.if-length-text.true)
-
-pub put_marks-requires-2-clause-room : goal.put_marks-requires-2-clause-room
-put_marks-requires-2-clause-room c = room-used _ (sound _ c.in_ok-fault.ensures c.if-lists.false)
 
 pub put_marks-requires-2-clause-few : goal.put_marks-requires-2-clause-few
 put_marks-requires-2-clause-few c = most (lent c.args.lists) (sound _ c.in_ok-fault.ensures c.if-lists.false)

@@ -5,4 +5,4 @@ use Rattle.survey_export.proofs.Walk.{Sofar}
 use Rattle.survey_export.proofs.put_marks.Given as goal
 
 abbrev pub invariant-loop-i : goal.invariant-loop-i
-invariant-loop-i l = Sofar (lent l.lists) l.initial.writer l.writer l.i
+invariant-loop-i l = Sofar (lent l.marks.lists) l.initial.writer l.writer l.i

@@ -16,14 +16,14 @@ returns-in_err-insert_mark-clause-inserts c =
     let l = c.loop-i in
     let t = of_mark c.mark-mark.ensures a.sheet (lent_mut l.library) c.in_err-insert_mark.ensures.inserts in
     rw (raised_answer _ c.in_err-insert_mark.field-0.0 c.from_residual.result c.from_residual.ensures)
-    (stops (insert_one a.sheet) a.lists.used (mark_at (lent a.lists)) (lent_mut a.library.now) (lent_mut l.library) l.i l.invariant.0 c.loop-i-test.true _ t)
+    (stops (insert_one a.sheet) a.marks.lists.used (mark_at (lent a.marks.lists)) (lent_mut a.library.now) (lent_mut l.library) l.i l.invariant.0 c.loop-i-test.true _ t)
 
 pub loop-i-preserved : goal.loop-i-preserved
 loop-i-preserved c =
     let a = c.args in
     let l = c.loop-i in
     let t = of_mark c.mark-mark.ensures a.sheet (lent_mut l.library) c.in_ok-insert_mark.ensures.inserts in (
-      goes_on (insert_one a.sheet) a.lists.used (mark_at (lent a.lists)) (lent_mut a.library.now) (lent_mut l.library) l.i l.invariant.0 c.loop-i-test.true _ t,
+      goes_on (insert_one a.sheet) a.marks.lists.used (mark_at (lent a.marks.lists)) (lent_mut a.library.now) (lent_mut l.library) l.i l.invariant.0 c.loop-i-test.true _ t,
       (cc, cc, cc, cc, cc),
     )
 
@@ -32,5 +32,5 @@ unfolding marks_in
 returns-clause-inserts c =
     let a = c.args in
     let l = c.loop-i in
-    rw (all-taken (insert_one a.sheet) a.lists.used (mark_at (lent a.lists)) (lent_mut a.library.now) (lent_mut l.library) l.invariant.0
+    rw (all-taken (insert_one a.sheet) a.marks.lists.used (mark_at (lent a.marks.lists)) (lent_mut a.library.now) (lent_mut l.library) l.invariant.0
     c.loop-i-test.false) (record { answers = refl; library-is = refl })

@@ -8,4 +8,4 @@ use Rattle.mark_lists.specs.Lent.{lent}
 use Rattle.surveyed.proofs.insert_marks.Given as goal
 
 abbrev pub invariant-loop-i : goal.invariant-loop-i
-invariant-loop-i l = Going (insert_one l.sheet) l.lists.used (mark_at (lent l.lists)) (lent_mut l.fn.library) (lent_mut l.library) l.i × SameLists l.fn.library l.library
+invariant-loop-i l = Going (insert_one l.sheet) l.marks.lists.used (mark_at (lent l.marks.lists)) (lent_mut l.fn.library) (lent_mut l.library) l.i × SameLists l.fn.library l.library

@@ -19,4 +19,4 @@ returns c =
     let r = c.insert_marks-answer in
     let p = of_lists a.sheet (inserted r.result) c.put_outcome.new.text c.put_outcome.result (lent_mut r.new.library) c.put_outcome.ensures
     (search rules) (search rules) (search rules) (search rules) (search rules) refl in
-    (p.0, p.1 ∙ on-sheet a.sheet c.requires.good (marks_in (lent a.lists)) (lent_mut r.new.library) r.result r.ensures.inserts)
+    (p.0, p.1 ∙ on-sheet a.sheet c.requires (marks_in (lent a.marks.lists)) (lent_mut r.new.library) r.result r.ensures.inserts)

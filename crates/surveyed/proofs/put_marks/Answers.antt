@@ -8,7 +8,7 @@ use Rattle.surveyed.proofs.Texts.{sheet-good, of_sheet_lem, no_sheet}
 use Rattle.surveyed.proofs.put_marks.Goals as goal
 
 pub put_library-requires : goal.put_library-requires
-put_library-requires c = record { good = sheet-good _ c.in-Ok.sheet (sym c.sheet_of_marks.ensures ∙ ap made c.in-Ok.is); room = c.requires }
+put_library-requires c = sheet-good _ c.in-Ok.sheet (sym c.sheet_of_marks.ensures ∙ ap made c.in-Ok.is)
 
 pub returns-in-Ok : goal.returns-in-Ok
 returns-in-Ok c =

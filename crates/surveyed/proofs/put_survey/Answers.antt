@@ -12,11 +12,13 @@ use Rattle.surveyed.specs.Surveyed.{empty_marks, of_marks}
 use Rattle.surveyed.proofs.Texts.{few, marks_text, line_text_lem, refusal_text}
 use Rattle.surveyed.proofs.put_survey.Goals as goal
 
-pub put_marks-requires : goal.put_marks-requires
+pub invariant_of-marks : goal.invariant_of-marks
 unfolding empty_marks of_bits
-put_marks-requires c =
-    subst (λ (l : MarkList). Room l l.used) (sym c.as_lists.ensures)
-    (few c.args.bytes.now (lent_mut c.import.new.lists) c.in-Ok.field-0 (rw (sym c.in-Ok.is) c.import.ensures.imports))
+invariant_of-marks c = record {
+  room =
+      subst (λ (l : MarkList). Room l l.used) (sym c.as_lists.ensures)
+      (few c.args.bytes.now (lent_mut c.import.new.lists) c.in-Ok.field-0 (rw (sym c.in-Ok.is) c.import.ensures.imports));
+}
 
 pub returns-in-Ok : goal.returns-in-Ok
 unfolding empty_marks of_bits

@@ -8,8 +8,8 @@ use Rattle.surveyed.proofs.sheet_of_marks.Goals as goal
 
 pub returns : goal.returns
 returns c =
-    let l = lent c.args.lists in
-    let r = c.requires in
+    let l = lent c.args.marks.lists in
+    let r = c.args.marks.room in
     c.new.ensures
     ∙ of_extremes (take l.used l.xs) (take l.used l.ys) (take l.used l.zs)
     c.lowest.ensures
