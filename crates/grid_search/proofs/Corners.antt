@@ -1,14 +1,11 @@
 -- Corners as positions and as lists of coordinates. Assumes nothing.
 use Prim.Native.Nat.{ℕ, zero, suc}
-use mathlib.Core.Path.{◌≡◌, refl, sym, ◌∙◌, ap}
+use mathlib.Core.Path.{◌≡◌, refl}
 use mathlib.Core.Bool.{Bool}
-use mathlib.Core.List.{List, [], ◌∷◌, map}
+use mathlib.Core.List.{List, [], ◌∷◌}
 use lib.ListN.{take}
 use lib.Ieee.{Float, lt}
 use Rattle.basics.specs.Lists.{all, zip_with}
-use Rattle.basics.proofs.Lists.{map-take}
-use Rattle.geometry.specs.declared.Position.{Position}
-use Rattle.geometry.specs.Position.{coords, position_of}
 use Rattle.grid_search.specs.Sheet.{in_order}
 
 -- above on every axis, by the test along each
@@ -18,7 +15,3 @@ above_tests zero los his = refl
 above_tests (suc n) [] his = refl
 above_tests (suc n) (a ∷ los) [] = refl
 above_tests (suc n) (a ∷ los) (b ∷ his) = rw (above_tests n los his)
-
--- each coordinate moved
-pub moved : (f : Float → Float) (n : ℕ) (p : Position) (r : Position) → r ≡ position_of (coords n (record { x = f p.x; y = f p.y; z = f p.z })) → r ≡ position_of (map f (coords n p))
-moved f n p r h = h ∙ ap position_of (sym (map-take f n (p.x ∷ p.y ∷ p.z ∷ [])))

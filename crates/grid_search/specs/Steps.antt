@@ -1,8 +1,10 @@
 -- What the crate's inner functions ensure. Definitions only.
-use Rattle.std.specs.Prelude.{ℕ, not, List, [], ◌∷◌, eqb, ltb, Float}
+use Rattle.std.specs.Prelude.{ℕ, ◌≡◌, cond, not, List, [], ◌∷◌, map, eqb, ltb, Float}
 use Rattle.std.specs.Float.Ieee.{lt, le}
 use Rattle.basics.specs.Refusals.{Test, refuse}
 use Rattle.floats.specs.Rounded.{zero_f}
+use Rattle.geometry.specs.declared.Position.{Position}
+use Rattle.geometry.specs.Position.{position_of}
 use Rattle.grid_search.specs.Sheet.{out_of_limits, in_order}
 
 -- the tests 3 to 9 of `sheet_tests`, of settings in force
@@ -17,3 +19,7 @@ in_force_tests lo hi number tolerance border =
     ∷ refuse 8 (le tolerance zero_f)
     ∷ refuse 9 (lt border zero_f)
     ∷ []
+
+-- p is the corner x with each coordinate moved where the border is above 0, by each function that the move computes
+abbrev pub Widened : (Float → Float → Type 0) → Float → List Float → Position → Type 0
+Widened moves border x p = (f : Float → Float) → ((a b : Float) → moves a b → b ≡ f a) → p ≡ position_of (cond (lt zero_f border) (map f x) x)

@@ -10,7 +10,7 @@ ghost use Rattle.floats.specs.Rounded.{◌⊕◌, ◌⊖◌, ◌⊗◌, ◌⊘�
 ghost use Rattle.geometry.specs.Position.{coords, position_of, dimension};
 ghost use Rattle.grid.specs.Divisions.{counts, division};
 ghost use Rattle.grid_search.specs.Sheet.{number_of, tolerance_of, largest as largest_of, lowered as lowered_of, raised as raised_of, side_of, covered_of, diagonal as diagonal_of, sheet_from, past_limits, out_of_limits, in_order, made, new_sheet, same_position, same_sheet, sheet_ok};
-ghost use Rattle.grid_search.specs.Steps.{in_force_tests};
+ghost use Rattle.grid_search.specs.Steps.{in_force_tests, Widened};
 
 use basics::Refusal;
 use geometry::{Dimension, Position};
@@ -54,34 +54,34 @@ const MOST: f64 = 1024.0;
 
 const LEAST: f64 = 0.00000095367431640625;
 
+// A corner with each coordinate moved outwards where the border is above 0.
+fn widened<F: Fn(f64) -> f64>(ndim: Dimension, border: f64, corner: Position, moved: F) -> Position
+    requires { F.IsAlwaysCallable moved }
+    ensures { Widened (F.post moved) border (coords ndim.n corner) result }
+{
+    if border > 0.0 {
+        let corner = Position {
+            x: moved(corner.x),
+            y: moved(corner.y),
+            z: moved(corner.z),
+        };
+        return corner.in_use(ndim);
+    }
+    corner.in_use(ndim)
+}
+
 // The low corner moved outwards by the border.
 pub fn lowered(ndim: Dimension, border: f64, low: Position) -> Position
     ensures { result ≡ position_of (lowered_of border (coords ndim.n low)) }
 {
-    if border > 0.0 {
-        let moved = Position {
-            x: low.x - border,
-            y: low.y - border,
-            z: low.z - border,
-        };
-        return moved.in_use(ndim);
-    }
-    low.in_use(ndim)
+    widened(ndim, border, low, |x| x - border)
 }
 
 // The high corner moved outwards by the border.
 pub fn raised(ndim: Dimension, border: f64, high: Position) -> Position
     ensures { result ≡ position_of (raised_of border (coords ndim.n high)) }
 {
-    if border > 0.0 {
-        let moved = Position {
-            x: high.x + border,
-            y: high.y + border,
-            z: high.z + border,
-        };
-        return moved.in_use(ndim);
-    }
-    high.in_use(ndim)
+    widened(ndim, border, high, |x| x + border)
 }
 
 // The largest of the lengths along the axes in use.
