@@ -15,6 +15,7 @@ use records::Record;
 const MAX_MARKS: usize = 65536;
 
 // Marks that are lent to be read.
+// Kept: the C interface lends each list by itself (include/gemlab.h).
 #[derive(Clone, Copy)]
 pub struct MarkLists<'a> {
     pub ids: &'a [u64],
