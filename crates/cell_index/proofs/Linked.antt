@@ -1,6 +1,6 @@
 -- A test of each entry, and of each with the next, in one walk: rows, and numbers of cells.
 -- Assumes nothing.
-use Prim.Native.Nat.{ℕ, zero, suc, ◌+◌, ◌≤◌, ◌<◌}
+use Prim.Native.Nat.{ℕ, zero, suc, ◌+◌, ◌-◌, ◌≤◌, ◌<◌}
 use native.Mathlib.Numerals.{add-one}
 use native.Mathlib.Omega.{arith}
 use mathlib.Core.Path.{◌≡◌, refl, sym, ap, ap₂, ◌∙◌}
@@ -9,6 +9,9 @@ use mathlib.Core.List.{List, [], ◌∷◌}
 use lib.Dec.{ltb}
 use lib.ListN.{length, get_or, take, drop, drop_of_length-le}
 use lib.Seq.{get_or-take, take-length}
+use Rattle.std.specs.Prelude.{None}
+use Rattle.std.specs.List.{slice_get}
+use Rattle.std.proofs.lemmas.Option.{slice_get-get_or}
 use Rattle.basics.specs.Lists.{all, tab}
 use Rattle.basics.proofs.Lists.{length-tab, drop-tab, tab-take}
 use Rattle.table.specs.Rows.{Slot, slotted, slot_at, before, chain, slots_of, sorted}
@@ -78,7 +81,9 @@ pub numbers_linked : (ncell : ℕ) (l : List ℕ) → good_numbers ncell l ≡ l
 unfolding good_numbers ascending
 numbers_linked ncell l = rw (tab-take (length l) l 0 (omega arith), take-length l) (linked_is (λ (c : ℕ). ltb c ncell) ltb ascending refl (λ c. refl) (λ c d l. refl) l)
 
-pub no_numbers : (ncell : ℕ) (l : List ℕ) → length l ≡ 0 → true ≡ good_numbers ncell l
+pub no_numbers : (ncell : ℕ) (l : List ℕ) → slice_get l (length l - 1) ≡ None → true ≡ good_numbers ncell l
 unfolding good_numbers ascending all
 no_numbers ncell [] e = refl
-no_numbers ncell (c ∷ l) e = absurd (omega arith)
+no_numbers ncell (c ∷ l) e =
+    let f = sym (slice_get-get_or (c ∷ l) (length (c ∷ l) - 1) 0 (omega arith)) ∙ e in
+    absurd (let z : ◌≡◌ {A = ℕ} 0 1 = cc in omega arith)

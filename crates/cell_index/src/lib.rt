@@ -90,6 +90,7 @@ fn are_rows_good(keys: &[u64], cells: &[u64], count: u64, ncell: u64) -> bool
         return true;
     };
     // no way out of the loop before its end: a flag costs less than a branch
+    // Kept: `keys.array_windows().zip(cells.array_windows())` gives `([k, l], [c, d])`: (k, c) is a row and (l, d) the next.
     let mut ok = true;
     for i in 0..last {
         ok &= ((keys[i] < count) & (cells[i] < ncell))
@@ -102,14 +103,14 @@ fn are_rows_good(keys: &[u64], cells: &[u64], count: u64, ncell: u64) -> bool
 fn are_large_good(large: &[u64], ncell: u64) -> bool
     ensures { result ≡ good_numbers ncell large.now }
 {
-    let Some(last) = large.len().checked_sub(1) else {
+    let Some(last) = large.last() else {
         return true;
     };
     let mut ok = true;
-    for i in 0..last {
-        ok &= (large[i] < ncell) & (large[i] < large[i + 1]);
+    for pair in large.windows(2) {
+        ok &= (pair[0] < ncell) & (pair[0] < pair[1]);
     }
-    ok & (large[last] < ncell)
+    ok & (*last < ncell)
 }
 
 // Whether 13 is not the case, of an index of so many cells: the index by itself, the lists, and what they hold.

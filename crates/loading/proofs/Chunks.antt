@@ -2,16 +2,16 @@
 -- of the rest, and what is left over is the rest's.
 -- Assumes nothing.
 use Prim.Native.Nat.{ℕ, zero, suc, ◌+◌, ◌*◌, ◌/◌, ◌%◌, ◌≤◌, ◌<◌}
-use native.Mathlib.Nat.{zero-add, suc-add, add-zero, suc-mul, add-mul, mul-le-mul_right, div-mul-le_self, div-add-mod', mul-add-div_right, mul-add-mod_self_right}
+use native.Mathlib.Nat.{zero-add, suc-add, add-zero, suc-mul, add-mul, mul-le-mul_right, zero-mul, div_self, mod_self, div-mul-le_self, div-add-mod', mul-add-div_right, mul-add-mod_self_right}
 use native.Mathlib.Omega.{arith}
-use mathlib.Core.Path.{◌≡◌, refl, sym, ap, ap₂, ◌∙◌}
+use mathlib.Core.Path.{◌≡◌, refl, sym, ap, ap₂, ◌∙◌, subst}
 use mathlib.Core.Bool.{true, false, not}
 use mathlib.Core.Logic.{◌⊎◌, inl, inr}
 use mathlib.Core.Option.{Option, none, some, some-ne-none}
 use mathlib.Core.List.{List, [], ◌∷◌, ◌++◌}
 use lib.Dec.{eqb}
 use lib.ListN.{length, take, drop, length-append, length-drop}
-use lib.Seq.{drop-append-le, take-append-le, drop-append-add}
+use lib.Seq.{take-length, drop-append-le, take-append-le, drop-append-add}
 use borrow.Author.Tests.{eq-eqb, eqb-true}
 use Rattle.basics.proofs.Bools.{which}
 use Rattle.basics.specs.Lists.{tab}
@@ -83,6 +83,24 @@ module _ (width : ℕ) (some_width : 0 < width) (a b : List ℕ) (e : length a %
   pub whole_append : length b % width ≡ 0 → length (a ++ b) % width ≡ 0
   whole_append f =
       ap (λ (k : ℕ). k % width) (length-append a b ∙ ap (λ (k : ℕ). k + length b) (whole_length width a e)) ∙ mul-add-mod_self_right (length a / width) width (length b) ∙ f
+
+-- the first record, and those that are left
+one_record : (width : ℕ) → 0 < width → (a : List ℕ) → length a ≡ width → records_of width a ≡ a ∷ []
+unfolding records_of
+one_record width w a e =
+    rw (e, div_self w, zero-mul) (ap (λ (r : List ℕ). r ∷ []) (take_whole width a e))
+  where
+    take_whole : (n : ℕ) (b : List ℕ) → length b ≡ n → take n b ≡ b
+    take_whole n b f = subst (λ (k : ℕ). take k b ≡ b) f (take-length b)
+
+pub record_first : (width : ℕ) → 0 < width → (a left : List ℕ) → length a ≡ width → records_of width (a ++ left) ≡ a ∷ records_of width left
+record_first width w a left e =
+    records_append width w a left (ap (λ (k : ℕ). k % width) e ∙ mod_self width) ∙ ap (λ (l : List (List ℕ)). l ++ records_of width left) (one_record width w a e)
+
+-- too few bytes for a record, or no width
+pub no_more : (width : ℕ) (left : List ℕ) → length left / width ≡ 0 → records_of width left ≡ []
+unfolding records_of
+no_more width left e = rw e refl
 
 -- ---- bytes left over
 

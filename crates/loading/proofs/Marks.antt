@@ -1,14 +1,13 @@
 -- The marks of whole records, one insertion after the other, and the bytes left over.
 -- Assumes nothing.
-use Prim.Native.Nat.{ℕ, ◌*◌, ◌/◌, ◌%◌, ◌≤◌}
-use native.Mathlib.Nat.{div-add-mod'}
-use native.Mathlib.Omega.{arith}
-use mathlib.Core.Path.{◌≡◌, refl, sym, ap, ◌∙◌, subst}
+use Prim.Native.Nat.{ℕ, ◌/◌, ◌%◌, ◌<◌}
+use mathlib.Core.Path.{◌≡◌, refl, sym, ap, ◌∙◌}
+use mathlib.Core.Bool.{cond}
 use mathlib.Core.Option.{Option, none, some}
-use mathlib.Core.List.{List}
-use lib.ListN.{length, take, drop}
-use borrow.Author.Tests.{ne_eqb}
-use Rattle.basics.specs.Lists.{tab}
+use mathlib.Core.List.{List, ◌∷◌, ◌++◌}
+use lib.ListN.{length}
+use lib.Dec.{eqb}
+use Rattle.basics.proofs.Bools.{by_test}
 use Rattle.basics.specs.Refusals.{Answer, refused, success, fault}
 use Rattle.grid_search.specs.declared.GridSearch.{GridSearch}
 use Rattle.table.specs.Library.{Library}
@@ -18,8 +17,8 @@ use Rattle.rows.specs.Insert.{insertion}
 use Rattle.records.specs.declared.Record.{Record}
 use Rattle.records.specs.Records.{reading}
 use Rattle.loading.specs.Loading.{place_of, unless, records_of, insert_mark, insert_record, and_then, insert_all, leftover, finish, insert_bytes}
-use Rattle.loading.proofs.Chunks.{bytes-are, leftover-none}
-use Rattle.loading.proofs.InOrder.{no, all-used, all_sound, one-sound, Going, all-taken}
+use Rattle.loading.proofs.Chunks.{bytes-are, record_first, no_more}
+use Rattle.loading.proofs.InOrder.{no, all_none, all-used, all_sound, one-sound, goes_on, stops}
 
 -- ---- one record
 
@@ -41,53 +40,46 @@ finish-success : (left : Option ℕ) (l : Library) (n : ℕ) → finish left (re
 unfolding finish and_then
 finish-success left l n = refl
 
--- bytes are left over where the whole records are not all of them
-module _ (width : ℕ) (bytes : List ℕ) where
-  pub none_over : length bytes / width * width ≡ length bytes → leftover width bytes ≡ none
-  none_over e = leftover-none width bytes (omega (arith, div-add-mod' (length bytes) width))
+-- what the bytes left over make of the answer
+over : (width rows : ℕ) (bytes : List ℕ) → unless (leftover width bytes) (success rows) ≡ cond (eqb (length bytes % width) 0) (success rows) (refused 13)
+unfolding unless leftover fault
+over width rows bytes = by_test (eqb (length bytes % width) 0) (λ e. rw e refl) (λ e. rw e refl)
 
-  pub some-over : (length bytes / width * width ≡ length bytes → ⊥) → leftover width bytes ≡ some 13
-  unfolding leftover fault
-  some-over e = rw (ne_eqb (length bytes % width) 0 (λ z. e (omega (arith, div-add-mod' (length bytes) width))))
+-- ---- the walk over the records: l is the library before the records of the bytes that are left
 
--- ---- the walk over the records
+abbrev pub GoingOn : ℕ → GridSearch → List ℕ → Library → Library → List ℕ → Type 0
+GoingOn width s bytes l₀ l left = insert_all (insert_record s) l₀ (records_of width bytes) ≡ insert_all (insert_record s) l (records_of width left)
 
-abbrev pub record_from : ℕ → List ℕ → ℕ → List ℕ
-record_from width bytes i = take width (drop (i * width) bytes)
-
--- the part of the bytes that it is
-pub of_part : {width k : ℕ} → k ≡ width → (s : GridSearch) (l : Library) (bytes : List ℕ) (i : ℕ) {a : Answer ℕ} {after : Library}
-    → Gives (insert_record s l (take k (drop (i * width) bytes))) a after → Gives (insert_record s l (record_from width bytes i)) a after
-of_part {width} e s l bytes i {a} {after} t = subst (λ (n : ℕ). Gives (insert_record s l (take n (drop (i * width) bytes))) a after) e t
-
-abbrev pub GoingOn : ℕ → GridSearch → List ℕ → Library → Library → ℕ → Type 0
-GoingOn width s bytes = Going (insert_record s) (length bytes / width) (record_from width bytes)
-
-module _ (width : ℕ) (s : GridSearch) (bytes : List ℕ) (l₀ : Library) where
+module _ (width : ℕ) (s : GridSearch) (bytes : List ℕ) (l₀ l : Library) where
   abbrev marks : Turn ℕ
-  marks = insert_all (insert_record s) l₀ (tab (length bytes / width) (record_from width bytes))
+  marks = insert_all (insert_record s) l₀ (records_of width bytes)
 
-  ends : insert_bytes width s l₀ bytes ≡ finish (leftover width bytes) marks
-  unfolding records_of
-  ends = bytes-are s width l₀ bytes
+  -- the next one
+  module _ (some_width : 0 < width) (all a left : List ℕ) (g : GoingOn width s bytes l₀ l all) (parts : all ≡ a ++ left) (e : length a ≡ width) where
+    next_one : marks ≡ insert_all (insert_record s) l (a ∷ records_of width left)
+    next_one = g ∙ ap (λ (b : List ℕ). insert_all (insert_record s) l (records_of width b)) parts ∙ ap (insert_all (insert_record s) l) (record_first width some_width a left e)
 
-  -- one is turned away: that is the answer
-  pub stopped : (n : ℕ) {after : Library} → Gives marks (refused n) after → Gives (insert_bytes width s l₀ bytes) (refused n) after
-  stopped n t = rw (ends, finish-refused (leftover width bytes) marks n (sym t.answers)) t
+    module _ {after : Library} where
+      -- it is stored: go on
+      pub stored : (n : ℕ) → Gives (insert_record s l a) (success n) after → GoingOn width s bytes l₀ after left
+      stored n u = goes_on (insert_record s) (records_of width bytes) l₀ l a (records_of width left) next_one n u
+
+      -- it is turned away: that is the answer
+      pub stopped : (n : ℕ) → Gives (insert_record s l a) (refused n) after → Gives (insert_bytes width s l₀ bytes) (refused n) after
+      stopped n u =
+          let t = stops (insert_record s) (records_of width bytes) l₀ l a (records_of width left) next_one n u in
+          rw (bytes-are s width l₀ bytes, finish-refused (leftover width bytes) marks n (sym t.answers)) t
 
   -- all are stored: the bytes left over decide
-  module _ {l : Library} {i : ℕ} (g : GoingOn width s bytes l₀ l i) (h : length bytes / width ≤ i) where
+  module _ (all left : List ℕ) (g : GoingOn width s bytes l₀ l all) (h : length all / width ≡ 0) (many : length left ≡ length bytes % width) where
     the_end : insert_bytes width s l₀ bytes ≡ record { library = l; answer = unless (leftover width bytes) (success l.used) }
     the_end =
-        ends ∙ ap (finish (leftover width bytes)) (all-taken (insert_record s) (length bytes / width) (record_from width bytes) l₀ l g h) ∙ finish-success (leftover width bytes) l l.used
+        bytes-are s width l₀ bytes
+        ∙ ap (finish (leftover width bytes)) (g ∙ ap (insert_all (insert_record s) l) (no_more width all h) ∙ all_none (insert_record s) l)
+        ∙ finish-success (leftover width bytes) l l.used
 
-    pub all_stored : length bytes / width * width ≡ length bytes → Gives (insert_bytes width s l₀ bytes) (success l.used) l
-    unfolding unless
-    all_stored e = rw (the_end, none_over width bytes e) (record { answers = refl; library-is = refl })
-
-    pub left_over : (length bytes / width * width ≡ length bytes → ⊥) → Gives (insert_bytes width s l₀ bytes) (refused 13) l
-    unfolding unless
-    left_over e = rw (the_end, some-over width bytes e) (record { answers = refl; library-is = refl })
+    pub ended : {a : Answer ℕ} → a ≡ cond (eqb (length left) 0) (success l.used) (refused 13) → Gives (insert_bytes width s l₀ bytes) a l
+    ended e = rw the_end (record { answers = e ∙ ap (λ (n : ℕ). cond (eqb n 0) (success l.used) (refused 13)) many ∙ sym (over width l.used bytes); library-is = refl })
 
 -- ---- marks that were all taken
 

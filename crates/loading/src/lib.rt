@@ -1,7 +1,8 @@
 // A sheet and marks from the bytes of their files, which are records as `records` has them.
 #![tactic(auto)]
 
-ghost use Rattle.std.specs.Prelude.{◌/◌, ◌≤◌, ◌≡◌, length};
+ghost use Rattle.std.specs.Prelude.{◌≤◌, ◌≡◌, cond, eqb, length};
+ghost use Rattle.basics.specs.Refusals.{refused, success};
 ghost use Rattle.geometry.specs.declared.Position.{Position};
 ghost use Rattle.geometry.specs.Position.{coords};
 ghost use Rattle.grid_search.specs.Sheet.{made};
@@ -67,11 +68,15 @@ pub fn insert_record(
     insert_mark(sheet, library, mark)
 }
 
-// How many whole records of a width the bytes hold: none of width 0.
-fn count_records(bytes: &[u8], width: usize) -> usize
-    ensures { result ≡ length bytes.now / width }
+// The answer once the marks of whole records were taken: 13 where bytes are left over.
+fn answer_after(left: &[u8], rows: usize) -> Result<usize, Refusal>
+    ensures { inserted result ≡ cond (eqb (length left.now) 0) (success rows) (refused 13) }
 {
-    if width == 0 { 0 } else { bytes.len() / width }
+    if left.is_empty() {
+        Ok(rows)
+    } else {
+        Err(Refusal::Damaged)
+    }
 }
 
 // Inserts the marks of the whole records of this width in order, up to the first that is turned away; bytes left over are
@@ -85,13 +90,14 @@ pub fn insert_records(
     ensures inserts { Inserts (insert_bytes width sheet (lent_mut library.old) bytes.now) result (lent_mut library.new) }
     ensures same_lists { SameLists library.old library.new }
 {
-    let count = count_records(bytes, width);
-    for i in 0..count {
-        let at = i * width;
-        insert_record(sheet, library, &bytes[at..at + width])?;
+    // no record has width 0
+    if width == 0 {
+        return answer_after(bytes, library.used);
     }
-    if count * width != bytes.len() {
-        return Err(Refusal::Damaged);
+    let records = bytes.chunks_exact(width);
+    let left = records.remainder();
+    for record in records {
+        insert_record(sheet, library, record)?;
     }
-    Ok(library.used)
+    answer_after(left, library.used)
 }
