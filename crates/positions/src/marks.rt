@@ -150,6 +150,7 @@ impl<const N: usize> Library<N> {
 }
 
 // Puts a mark into a library and tells the keys of its rows.
+// Kept: what is tried is told beside its coordinates, as document 01 lists it; a struct would be made for each line of it.
 fn insertion<const N: usize>(
     rt: &impl Print,
     tried: &str,

@@ -25,6 +25,7 @@ impl fmt::Display for Exact {
 }
 
 // What a call refuses by.
+// Kept: `replay` has the same few lines; no crate lies below the two programs alone, and both hold what C gets, a number.
 #[derive(Clone, Copy)]
 pub struct Refused(u64);
 
@@ -53,6 +54,7 @@ pub struct Numbers<'a> {
 
 impl<'a> Numbers<'a> {
     // The first `count` of a list.
+    // Kept: the C interface writes a list's length apart from the list, and this is where the two come together.
     pub fn first(what: &'a str, list: &'a [u64], count: u64) -> Self {
         let list = list.get(..count as usize).unwrap_or(list);
         Numbers { what, list }
