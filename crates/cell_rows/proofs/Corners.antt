@@ -1,6 +1,6 @@
 -- The walk over the corners of a box that gathers the keys of their containers.
 -- Assumes nothing.
-use Prim.Native.Nat.{ℕ, zero, suc, ◌+◌, ◌/◌, ◌^◌, ◌≤◌, ◌<◌}
+use Prim.Native.Nat.{ℕ, ◌+◌, ◌^◌, ◌≤◌, ◌<◌}
 use native.Mathlib.Nat.{lt_of_lt_of_le}
 use native.Mathlib.Numerals.{add-one}
 use native.Mathlib.Omega.{arith}
@@ -16,7 +16,7 @@ use Rattle.basics.proofs.Bools.{by_test, both, and_left, and_right}
 use Rattle.basics.specs.Lists.{all, any, has}
 use Rattle.basics.proofs.Lists.{length-tab, drop-tab}
 use Rattle.geometry.specs.declared.Position.{Position}
-use Rattle.geometry.specs.Position.{coords, dimension}
+use Rattle.geometry.specs.Position.{coords, dimension, box_corner}
 use Rattle.geometry.proofs.Axes.{for_axes, coords-length}
 use Rattle.grid.specs.declared.ContainerKey.{ContainerKey}
 use Rattle.std.specs.Prelude.{Some, None}
@@ -30,7 +30,7 @@ use Rattle.mesh.specs.Mesh.{Box, boxed}
 use Rattle.cell_rows.specs.declared.Containers.{Containers}
 use Rattle.cell_rows.specs.declared.keys.CellKeys.{CellKeys}
 use Rattle.cell_rows.specs.Keys.{held}
-use Rattle.cell_rows.specs.Filing.{cell_key, cell_exceeds, box_corner, box_corners, box_exceeds}
+use Rattle.cell_rows.specs.Filing.{cell_key, cell_exceeds, box_corners, box_exceeds}
 use Rattle.cell_rows.specs.Steps.{Keyed, cell_container, join_once, once, box_keys, box_keys_or}
 
 -- ---- the container of a position
@@ -100,18 +100,6 @@ pub length_held : (k : CellKeys) → length (held k) ≡ k.count
 length_held k = length-take-le k.count k.keys (omega (arith, k.few, k.room))
 
 -- ---- corners
-
--- along the first n axes
-take-corner : (n : ℕ) (los his : List Float) (c : ℕ) → take n (box_corner los his c) ≡ box_corner (take n los) (take n his) c
-unfolding box_corner
-take-corner zero los his c = refl
-take-corner (suc n) [] his c = refl
-take-corner (suc n) (a ∷ los) [] c = refl
-take-corner (suc n) (a ∷ los) (b ∷ his) c = rw (take-corner n los his (c / 2))
-
-pub corner-axes : (n : ℕ) (lo hi : Position) (c : ℕ) (x y z : Float) → x ∷ y ∷ z ∷ [] ≡ box_corner (coords 3 lo) (coords 3 hi) c
-    → coords n (record { x = x; y = y; z = z }) ≡ box_corner (coords n lo) (coords n hi) c
-corner-axes n lo hi c x y z e = ap (take n) e ∙ take-corner n (coords 3 lo) (coords 3 hi) c
 
 -- what is known once the corners before number c are passed
 pub record Walked (g : Containers) (n : ℕ) (b : BoundingBox) (c : ℕ) (keys : List ℕ) : Type 0 where

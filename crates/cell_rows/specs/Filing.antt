@@ -1,8 +1,8 @@
 -- The rows of a cell index: each small cell is filed under the containers of its bounding box's corners.
 -- Assumes nothing.
-use Rattle.std.specs.Prelude.{ℕ, suc, ◌/◌, ◌%◌, ◌^◌, Bool, cond, List, [], ◌∷◌, eqb, length, Float}
+use Rattle.std.specs.Prelude.{ℕ, suc, ◌^◌, Bool, cond, List, [], ◌∷◌, length, Float}
 use Rattle.basics.specs.Lists.{any, tab}
-use Rattle.geometry.specs.Position.{coords}
+use Rattle.geometry.specs.Position.{coords, box_corner}
 use Rattle.grid.specs.Divisions.{counts}
 use Rattle.grid.specs.Containers.{ratios, exceed, key_of}
 use Rattle.mesh.specs.Mesh.{Box}
@@ -20,12 +20,6 @@ unfolding exceed ratios
 cell_exceeds g x = exceed (counts g.ndim g.ndiv) (ratios g.side_length (coords g.ndim g.xmin) x)
 
 -- ---- each small cell is filed under the corners of its bounding box
-
--- corner c of a box: on each axis the low or the high end, as the axis's binary digit of c is 0 or 1
-unfoldable pub box_corner : List Float → List Float → ℕ → List Float
-box_corner (a ∷ los) (b ∷ his) c = cond (eqb (c % 2) 0) a b ∷ box_corner los his (c / 2)
-box_corner [] his c = []
-box_corner (a ∷ los) [] c = []
 
 unfoldable pub box_corners : Box → List (List Float)
 unfolding box_corner

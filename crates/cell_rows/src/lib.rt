@@ -2,14 +2,14 @@
 // first, then written into the lent keys as one number each, cell by cell, sorted there, and taken apart.
 #![tactic(auto)]
 
-ghost use Rattle.std.specs.Prelude.{ℕ, ◌+◌, ◌*◌, ◌%◌, ◌≤◌, ◌<◌, ◌≡◌, true, cond, map, [], eqb, ltb, length};
+ghost use Rattle.std.specs.Prelude.{ℕ, ◌+◌, ◌*◌, ◌≤◌, ◌<◌, ◌≡◌, true, map, [], ltb, length};
 ghost use Rattle.basics.specs.Lists.{all, over};
 ghost use Rattle.geometry.specs.Position.{coords as axes};
 ghost use Rattle.grid.specs.Divisions.{counts, division};
 ghost use Rattle.mesh.specs.Mesh.{seen, cell_count, box_of, boxed};
 ghost use Rattle.cell_sizes.specs.Large.{boxes, is_large, numbered};
 ghost use Rattle.cell_sizes.specs.Steps.{files, lists};
-ghost use Rattle.cell_rows.specs.Filing.{box_corner, file_cells};
+ghost use Rattle.cell_rows.specs.Filing.{file_cells};
 ghost use Rattle.cell_rows.specs.Keys.{keys_in};
 ghost use Rattle.cell_rows.specs.Steps.{Keyed, cell_container, box_keys_or, filed_keys_or, row_count_or, pack, packed_key, packed_cell, packed_rows, Fitting, Written, Filed};
 
@@ -41,24 +41,6 @@ pub struct Filing<'a, 'b> {
     pub ghost few: { cell_count grid.ndim (seen mesh.mesh) ≤ 65536 },
 }
 
-// The low end for an even number, the high end for an odd one.
-fn end(low: f64, high: f64, c: usize) -> f64
-    ensures { result ≡ cond (eqb (c % 2) 0) low high }
-{
-    if c % 2 == 0 { low } else { high }
-}
-
-// Corner c of a box.
-fn box_corner(b: BoundingBox, c: usize) -> Position
-    ensures { (n : ℕ) → axes n result ≡ box_corner (axes n b.low) (axes n b.high) c }
-{
-    Position {
-        x: end(b.low.x, b.high.x, c),
-        y: end(b.low.y, b.high.y, c / 2),
-        z: end(b.low.z, b.high.z, c / 2 / 2),
-    }
-}
-
 impl Containers {
     // The container that a position falls into, or none where a ratio exceeds its divisions.
     #[tactic(auto, unfolding(crate::specs::Steps::cell_container, grid::specs::Containers::located, crate::specs::Filing::cell_key, crate::specs::Filing::cell_exceeds))]
@@ -84,7 +66,7 @@ impl Containers {
     {
         let mut keys = CellKeys::new();
         for c in 0..geometry::corner_count(Dimension { n: self.ndim }) {
-            keys.join(self.container(box_corner(b, c))?.0);
+            keys.join(self.container(geometry::corner(b.low, b.high, c))?.0);
         }
         Some(keys)
     }

@@ -1,6 +1,6 @@
 -- Laws of positions and the lists of their coordinates, over any number of axes.
 -- Assumes nothing.
-use Prim.Native.Nat.{ℕ, zero, suc, ◌^◌, ◌≤◌, ◌<◌}
+use Prim.Native.Nat.{ℕ, zero, suc, ◌/◌, ◌^◌, ◌≤◌, ◌<◌}
 use native.Mathlib.Nat.{lt_of_lt_of_le}
 use native.Mathlib.Omega.{arith}
 use mathlib.Core.Path.{◌≡◌, refl, sym, ap, ◌∙◌, subst}
@@ -19,7 +19,7 @@ use Rattle.basics.proofs.Lists.{take_zip}
 use Rattle.floats.specs.Rounded.{◌⊖◌, ◌⊗◌, ◌⊘◌, zero_f}
 use Rattle.geometry.specs.declared.Position.{Position}
 use Rattle.geometry.specs.declared.Line.{Line}
-use Rattle.geometry.specs.Position.{coords, position_of, axis_of, dimension, coordinate, every_axis, some_axis}
+use Rattle.geometry.specs.Position.{coords, position_of, axis_of, dimension, coordinate, every_axis, some_axis, box_corner}
 use Rattle.geometry.specs.Distances.{less, line_of, from, dot, line_square}
 
 -- 2 or 3 as numbers
@@ -128,6 +128,18 @@ coords_of n l p h e f = ap (coords n) f ∙ entries_of zero_f n l h e
 -- and these are judged
 pub limits_are : (n : ℕ) (l : List Float) (p : Position) → dimension n ≡ true → length l ≡ n → p ≡ position_of l → all coordinate (coords n p) ≡ all coordinate l
 limits_are n l p h e f = ap (all coordinate) (coords_of n l p h e f)
+
+-- the corner of a box along the first n axes
+take-corner : (n : ℕ) (los his : List Float) (c : ℕ) → take n (box_corner los his c) ≡ box_corner (take n los) (take n his) c
+unfolding box_corner
+take-corner zero los his c = refl
+take-corner (suc n) [] his c = refl
+take-corner (suc n) (a ∷ los) [] c = refl
+take-corner (suc n) (a ∷ los) (b ∷ his) c = rw (take-corner n los his (c / 2))
+
+pub corner-axes : (n : ℕ) (lo hi : Position) (c : ℕ) (x y z : Float) → x ∷ y ∷ z ∷ [] ≡ box_corner (coords 3 lo) (coords 3 hi) c
+    → coords n (record { x = x; y = y; z = z }) ≡ box_corner (coords n lo) (coords n hi) c
+corner-axes n lo hi c x y z e = ap (take n) e ∙ take-corner n (coords 3 lo) (coords 3 hi) c
 
 -- differences of coordinates
 pub coords-less : (n : ℕ) (a b : Position) → coords n (less a b) ≡ from (coords n a) (coords n b)

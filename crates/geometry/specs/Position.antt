@@ -1,6 +1,6 @@
 -- Positions: a record of three floats, tied to the list of its coordinates on the axes in use. Every definition over the axes is one over such lists.
 -- Assumes nothing.
-use Rattle.std.specs.Prelude.{ℕ, zero, suc, Bool, List, [], ◌∷◌, take, get_or, Float}
+use Rattle.std.specs.Prelude.{ℕ, zero, suc, ◌/◌, ◌%◌, Bool, cond, List, [], ◌∷◌, eqb, take, get_or, Float}
 use Rattle.basics.specs.Lists.{all, any}
 use Rattle.floats.specs.Rounded.{zero_f, pow2}
 use Rattle.floats.specs.Tests.{within}
@@ -31,3 +31,9 @@ every_axis n x y z = all (λ (b : Bool). b) (take n (x ∷ y ∷ z ∷ []))
 
 abbrev pub some_axis : ℕ → Bool → Bool → Bool → Bool
 some_axis n x y z = any (λ (b : Bool). b) (take n (x ∷ y ∷ z ∷ []))
+
+-- corner c of a box: on each axis the low or the high end, as the axis's binary digit of c is 0 or 1
+unfoldable pub box_corner : List Float → List Float → ℕ → List Float
+box_corner (a ∷ los) (b ∷ his) c = cond (eqb (c % 2) 0) a b ∷ box_corner los his (c / 2)
+box_corner [] his c = []
+box_corner (a ∷ los) [] c = []

@@ -3,11 +3,11 @@
 // `triangle.rs` and `tetrahedron.rs`.
 #![tactic(auto)]
 
-ghost use Rattle.std.specs.Prelude.{ℕ, ◌^◌, ◌≡◌, true, [], ◌∷◌, Float, get_or};
+ghost use Rattle.std.specs.Prelude.{ℕ, ◌^◌, ◌%◌, ◌≡◌, true, cond, [], ◌∷◌, eqb, Float, get_or};
 ghost use Rattle.basics.specs.Lists.{all};
 ghost use Rattle.basics.specs.Refusals.{refuse, fault, answer};
 ghost use Rattle.floats.specs.Rounded.{zero_f};
-ghost use Rattle.geometry.specs.Position.{coords, position_of, axis_of, dimension, coordinate, every_axis, some_axis};
+ghost use Rattle.geometry.specs.Position.{coords, position_of, axis_of, dimension, coordinate, every_axis, some_axis, box_corner};
 ghost use Rattle.geometry.specs.Distances.{less, line_of, dot as dot_of, point_square, point_point, too_close, line_square, point_line};
 ghost use Rattle.geometry.specs.Distances.{measured, point_point_answer, point_line_answer, point_circle_answer, point_cylinder_answer};
 ghost use Rattle.geometry.specs.Cells.{zetas, doubled_area, triangle_coords, tetrahedron_coords, inside};
@@ -99,6 +99,24 @@ pub fn corner_count(ndim: Dimension) -> usize
     ensures { result ≡ 2 ^ ndim.n }
 {
     1 << ndim.n
+}
+
+// The low end where the last of a corner's digits is 0, and the high end where it is 1.
+fn end(low: f64, high: f64, digits: usize) -> f64
+    ensures { result ≡ cond (eqb (digits % 2) 0) low high }
+{
+    if digits % 2 == 0 { low } else { high }
+}
+
+// Corner c of the box from low to high: its digit along each axis chooses the end.
+pub fn corner(low: Position, high: Position, c: usize) -> Position
+    ensures { (n : ℕ) → coords n result ≡ box_corner (coords n low) (coords n high) c }
+{
+    Position {
+        x: end(low.x, high.x, c),
+        y: end(low.y, high.y, c / 2),
+        z: end(low.z, high.z, c / 2 / 2),
+    }
 }
 
 // Whether x may be a coordinate or a radius: finite, of magnitude at most 2^20.

@@ -1,6 +1,6 @@
 -- A position's tests, and the containers that a mark goes into, each once: what the code finds is what the definitions give.
 -- Assumes nothing.
-use Prim.Native.Nat.{ℕ, zero, suc, ◌+◌, ◌/◌, ◌%◌, ◌^◌, ◌≤◌, ◌<◌}
+use Prim.Native.Nat.{ℕ, zero, suc, ◌+◌, ◌/◌, ◌^◌, ◌≤◌, ◌<◌}
 use native.Mathlib.Numerals.{add-one}
 use native.Mathlib.Omega.{arith}
 use mathlib.Core.Path.{◌≡◌, refl, sym, ap, ◌∙◌, subst}
@@ -19,7 +19,7 @@ use Rattle.basics.proofs.Lists.{length-tab, drop-tab}
 use Rattle.basics.specs.Refusals.{fault}
 use Rattle.floats.specs.Rounded.{◌⊕◌, ◌⊖◌}
 use Rattle.geometry.specs.declared.Position.{Position}
-use Rattle.geometry.specs.Position.{coords, position_of, coordinate, dimension}
+use Rattle.geometry.specs.Position.{coords, position_of, coordinate, dimension, box_corner}
 use Rattle.geometry.proofs.Axes.{coords_of, coords-length}
 use Rattle.grid.specs.declared.ContainerKey.{ContainerKey}
 use Rattle.grid.specs.Divisions.{counts}
@@ -122,21 +122,13 @@ module _ (s : GridSearch) (p : List Float) (ks : List ℕ) where
 
 -- ---- the halo
 
--- the sign that a corner's last digit gives
-abbrev pub signed : Float → Float → ℕ → Float
-signed t x c = cond (eqb (c % 2) 0) (x ⊖ t) (x ⊕ t)
-
--- the coordinates of a corner along the first n axes are the definition's
-take-corner : (t : Float) (n : ℕ) (xs : List Float) (c : ℕ) → take n (corner t xs c) ≡ corner t (take n xs) c
-unfolding corner
-take-corner t zero xs c = refl
-take-corner t (suc n) [] c = refl
-take-corner t (suc n) (x ∷ xs) c = rw (take-corner t n xs (c / 2))
-
-pub corner-is : (t : Float) (x : Position) (c : ℕ) (a b d : Float) → a ≡ signed t x.x c → b ≡ signed t x.y (c / 2) → d ≡ signed t x.z (c / 2 / 2)
-    → (n : ℕ) → coords n (record { x = a; y = b; z = d }) ≡ corner t (coords n x) c
-unfolding corner
-corner-is t x c a b d p q r n = rw (p, q, r) (take-corner t n (x.x ∷ x.y ∷ x.z ∷ []) c)
+-- a corner of the halo is that of the box from x - tolerance to x + tolerance, along the first n axes
+pub halo-box : (t : Float) (n : ℕ) (x : List Float) (c : ℕ)
+    → box_corner (take n (map (λ (a : Float). a ⊖ t) x)) (take n (map (λ (a : Float). a ⊕ t) x)) c ≡ corner t (take n x) c
+unfolding box_corner corner
+halo-box t zero x c = refl
+halo-box t (suc n) [] c = refl
+halo-box t (suc n) (a ∷ x) c = rw (halo-box t n x (c / 2))
 
 -- ---- the walk over the halo, from the position's own container on
 

@@ -1,6 +1,5 @@
 // The containers that a mark goes into: that of its position, and those of the corners of its halo.
-ghost use Rattle.std.specs.Prelude.{◌≡◌, true, [], ◌∷◌, ℕ, List, cond, ◌%◌, ◌≤◌, ◌<◌, eqb, length, take, Some};
-ghost use Rattle.floats.specs.Rounded.{◌⊕◌, ◌⊖◌};
+ghost use Rattle.std.specs.Prelude.{◌≡◌, true, [], ◌∷◌, ℕ, List, ◌≤◌, ◌<◌, length, take, Some};
 ghost use Rattle.geometry.specs.Position.{coords, dimension};
 ghost use Rattle.grid_search.specs.Sheet.{tolerance_of};
 ghost use Rattle.rows.specs.Insert.{corner, halo};
@@ -10,26 +9,21 @@ use geometry::{Dimension, Position};
 use grid_search::GridSearch;
 use std::marker::Model;
 
-// A coordinate of a halo corner: below x where the last of the corner's digits is 0, and above where it is 1.
-fn shifted(x: f64, tolerance: f64, digits: usize) -> f64
-    ensures { result ≡ cond (eqb (digits % 2) 0) (x ⊖ tolerance) (x ⊕ tolerance) }
-{
-    if digits % 2 == 0 {
-        x - tolerance
-    } else {
-        x + tolerance
-    }
-}
-
-// Corner c of the halo around x.
+// Corner c of the halo around x: that of the box that reaches the tolerance below and above x on each axis.
 fn halo_corner(x: Position, tolerance: f64, c: usize) -> Position
     ensures { (n : ℕ) → dimension n ≡ true → coords n result ≡ corner tolerance (coords n x) c }
 {
-    Position {
-        x: shifted(x.x, tolerance, c),
-        y: shifted(x.y, tolerance, c / 2),
-        z: shifted(x.z, tolerance, c / 2 / 2),
-    }
+    let low = Position {
+        x: x.x - tolerance,
+        y: x.y - tolerance,
+        z: x.z - tolerance,
+    };
+    let high = Position {
+        x: x.x + tolerance,
+        y: x.y + tolerance,
+        z: x.z + tolerance,
+    };
+    geometry::corner(low, high, c)
 }
 
 // Containers, each once: nine at most, that of a position and those of eight corners.

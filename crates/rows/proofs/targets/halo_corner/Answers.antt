@@ -1,6 +1,10 @@
 -- `halo_corner` meets its contract. Assumes nothing.
-use Rattle.rows.proofs.Found.{corner-is}
+use mathlib.Core.Path.{◌∙◌}
+use mathlib.Core.List.{[], ◌∷◌}
+use Rattle.rows.proofs.Found.{halo-box}
 use Rattle.rows.proofs.targets.halo_corner.Goals as goal
 
 pub returns : goal.returns
-returns c = λ n h. corner-is c.args.tolerance c.args.x c.args.c c.shifted.result c.shifted-2.result c.shifted-3.result c.shifted.ensures c.shifted-2.ensures c.shifted-3.ensures n
+returns c =
+    let x = c.args.x in
+    λ n h. c.corner.ensures n ∙ halo-box c.args.tolerance n (x.x ∷ x.y ∷ x.z ∷ []) c.args.c
