@@ -11,7 +11,7 @@ use lib.Ieee.{Float}
 use borrow.Author.Tests.{lt-ltb}
 use Rattle.basics.proofs.Bools.{by_test, both, and_both, or_left, or_right}
 use Rattle.basics.specs.Lists.{all, any, zip_with, tab, over}
-use Rattle.geometry.specs.Position.{coords}
+use Rattle.geometry.specs.Position.{coords, box_corner}
 use Rattle.grid.specs.Divisions.{counts, division}
 use Rattle.grid.specs.Containers.{ratios, containers}
 use Rattle.grid.proofs.Keys.{key_below}
@@ -20,7 +20,7 @@ use Rattle.table.specs.Rows.{Slot, slotted, before, same, chain, sorted, slot_at
 use Rattle.table.proofs.Order.{before-total}
 use Rattle.cell_sizes.specs.Large.{numbered}
 use Rattle.cell_rows.specs.declared.Containers.{Containers}
-use Rattle.cell_rows.specs.Filing.{cell_key, cell_exceeds, box_corner, box_corners, enter_slot, file_cell, file_cells, box_exceeds}
+use Rattle.cell_rows.specs.Filing.{cell_key, cell_exceeds, box_corners, enter_slot, file_cell, file_cells, box_exceeds}
 use Rattle.sorting.specs.Ascent.{ascending}
 use Rattle.cell_claims.proofs.Boxes.{Each, Good}
 

@@ -16,7 +16,7 @@ use Rattle.basics.proofs.Bools.{by_test, both, and_left, and_right}
 use Rattle.basics.specs.Lists.{all, any, has}
 use Rattle.basics.proofs.Lists.{length-tab, drop-tab}
 use Rattle.geometry.specs.declared.Position.{Position}
-use Rattle.geometry.specs.Position.{coords, dimension}
+use Rattle.geometry.specs.Position.{coords, dimension, box_corner}
 use Rattle.geometry.proofs.Axes.{for_axes, coords-length}
 use Rattle.grid.specs.declared.ContainerKey.{ContainerKey}
 use Rattle.std.specs.Prelude.{Some, None}
@@ -30,7 +30,7 @@ use Rattle.mesh.specs.Mesh.{Box, boxed}
 use Rattle.cell_rows.specs.declared.Containers.{Containers}
 use Rattle.cell_rows.specs.declared.keys.CellKeys.{CellKeys}
 use Rattle.cell_rows.specs.Keys.{held}
-use Rattle.cell_rows.specs.Filing.{cell_key, cell_exceeds, box_corner, box_corners, box_exceeds}
+use Rattle.cell_rows.specs.Filing.{cell_key, cell_exceeds, box_corners, box_exceeds}
 use Rattle.cell_rows.specs.Steps.{Keyed, cell_container, join_once, once, box_keys, box_keys_or}
 
 -- ---- the container of a position

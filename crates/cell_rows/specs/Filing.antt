@@ -2,8 +2,7 @@
 -- Assumes nothing.
 use Rattle.std.specs.Prelude.{ℕ, suc, ◌^◌, Bool, cond, List, [], ◌∷◌, length, Float}
 use Rattle.basics.specs.Lists.{any, tab}
-use Rattle.geometry.specs.Position.{coords}
-pub use Rattle.geometry.specs.Position.{box_corner}
+use Rattle.geometry.specs.Position.{coords, box_corner}
 use Rattle.grid.specs.Divisions.{counts}
 use Rattle.grid.specs.Containers.{ratios, exceed, key_of}
 use Rattle.mesh.specs.Mesh.{Box}
