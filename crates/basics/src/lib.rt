@@ -1,7 +1,7 @@
-// What every layer shares: why a call is turned away. The definitions that they share stand in specs/.
+// What every layer shares: why a call is turned away, and where an item stands. The definitions that they share stand in specs/.
 #![tactic(auto)]
 
-ghost use Rattle.std.specs.Prelude.{◌≡◌};
+ghost use Rattle.std.specs.Prelude.{◌≡◌, position};
 ghost use Rattle.basics.specs.Answers.{refusal_number};
 
 // Why a call is turned away, with document 01's number.
@@ -73,4 +73,11 @@ impl From<Refusal> for u64 {
     fn from(refusal: Refusal) -> u64 {
         refusal as u64
     }
+}
+
+// Where the first item that equals this one stands: none where there is no such item.
+pub fn find<T: PartialEq>(items: &[T], item: &T) -> Option<usize>
+    ensures { result ≡ position (λ x. T.eq x item.now) items.now }
+{
+    items.iter().position(|x| *x == *item)
 }

@@ -61,7 +61,7 @@ fn cut_at_point(field: &[u8]) -> Option<(&[u8], u64)>
     ensures { MatchOption result (thousandths_in field.now ≡ none)
         (λ cut. IsCut field.now cut.0.now cut.1) }
 {
-    let Some(point) = lines::find(field, b'.') else {
+    let Some(point) = basics::find(field, &b'.') else {
         return Some((field, 0));
     };
     let decimals = read_decimals(&field[point + 1..])?;

@@ -1,15 +1,8 @@
-// A byte in a text, and a text's lines.
+// The lines of a text.
 #![tactic(auto)]
 
-ghost use Rattle.std.specs.Prelude.{◌≡◌, ◌==◌, [], ◌∷◌, MatchOption, position};
+ghost use Rattle.std.specs.Prelude.{◌≡◌, [], ◌∷◌, MatchOption};
 ghost use Rattle.lines.specs.Lines.{without_cr, lines};
-
-// Where the first byte that equals this one stands: none where there is no such byte.
-pub fn find(bytes: &[u8], byte: u8) -> Option<usize>
-    ensures { result ≡ position (λ b. b == byte) bytes.now }
-{
-    bytes.iter().position(|b| *b == byte)
-}
 
 // An iterator over the lines of a text, each without its LF or CR LF.
 #[derive(Clone, Copy)]
@@ -51,7 +44,7 @@ fn first_line(text: &[u8]) -> Option<(&[u8], &[u8])>
     if text.is_empty() {
         return None;
     }
-    let Some(end) = find(text, b'\n') else {
+    let Some(end) = basics::find(text, &b'\n') else {
         // the last line, which lacks its end
         return Some((text, b""));
     };

@@ -16,7 +16,7 @@ use table::{ItemId, LibraryMut};
 pub fn first_with(ids: &[u64], id: u64) -> Option<usize>
     ensures { FirstWith id ids.now result }
 {
-    ids.iter().position(|i| *i == id)
+    basics::find(ids, &id)
 }
 
 // Moves the rows of other ids down over those of this one, of which none stands before `from`, in one pass. Returns how many

@@ -52,7 +52,7 @@ fn cut(text: &[u8]) -> Option<(&[u8], &[u8])>
     ensures { MatchOption result (split 44 text.now ≡ text.now ∷ [])
         (λ parts. split 44 text.now ≡ parts.0.now ∷ split 44 parts.1.now) }
 {
-    let comma = lines::find(text, b',')?;
+    let comma = basics::find(text, &b',')?;
     Some((&text[..comma], &text[comma + 1..]))
 }
 
