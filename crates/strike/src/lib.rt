@@ -12,7 +12,6 @@ use grid_search::GridSearch;
 use table::{ItemId, LibraryMut};
 
 // The first of some ids that is this one.
-// Kept: not one with `lines::find`: of any type it would promise by that type's `==`, and the contracts speak of numbers.
 pub fn first_with(ids: &[u64], id: u64) -> Option<usize>
     ensures { FirstWith id ids.now result }
 {
