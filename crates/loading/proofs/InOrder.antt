@@ -1,10 +1,14 @@
 -- Marks one after the other, whatever a turn is and what it is taken of.
 -- Assumes nothing.
-use Prim.Native.Nat.{ℕ}
+use Prim.Native.Nat.{ℕ, suc, ◌+◌, ◌≤◌, ◌<◌}
+use native.Mathlib.Numerals.{add-one}
 use native.Mathlib.Omega.{arith}
-use mathlib.Core.Path.{◌≡◌, refl, sym, ◌∙◌}
+use mathlib.Core.Path.{◌≡◌, refl, sym, ap, ◌∙◌}
 use mathlib.Core.Option.{none}
 use mathlib.Core.List.{List, [], ◌∷◌}
+use lib.ListN.{drop, drop_of_length-le}
+use Rattle.basics.specs.Lists.{tab}
+use Rattle.basics.proofs.Lists.{length-tab, drop-tab}
 use Rattle.basics.specs.Refusals.{Answer, refused, success, fault}
 use Rattle.grid_search.specs.declared.GridSearch.{GridSearch}
 use Rattle.table.specs.Library.{Library}
@@ -59,24 +63,60 @@ module _ {A : Type 0} (one : Library → A → Turn ℕ) where
         go t u (refused m) a b = a
         go t u (success m) a b = b
 
--- ---- the walk: l is the library before those that are left, the first of which is a
+-- ---- the walk over a list: l is the library before those that are left, the first of which is a
 
 module _ {A : Type 0} (one : Library → A → Turn ℕ) (all : List A) (l₀ l : Library) (a : A) (left : List A) (g : insert_all one l₀ all ≡ insert_all one l (a ∷ left)) where
-  now_it : insert_all one l₀ all ≡ and_then (one l a) (one l a).answer (insert_all one (one l a).library left)
-  now_it = g ∙ all_cons one l a left
+  head_now : insert_all one l₀ all ≡ and_then (one l a) (one l a).answer (insert_all one (one l a).library left)
+  head_now = g ∙ all_cons one l a left
 
   -- what its turn gives
   module _ {after : Library} where
     -- it is stored: go on
-    pub goes_on : (n : ℕ) → Gives (one l a) (success n) after → insert_all one l₀ all ≡ insert_all one after left
-    goes_on n u =
-        now_it ∙ then-success (one l a) (insert_all one (one l a).library left) n (sym u.answers) ∙ rw (sym u.library-is)
+    pub next_stored : (n : ℕ) → Gives (one l a) (success n) after → insert_all one l₀ all ≡ insert_all one after left
+    next_stored n u =
+        head_now ∙ then-success (one l a) (insert_all one (one l a).library left) n (sym u.answers) ∙ rw (sym u.library-is)
 
     -- it is turned away: that is the answer
-    pub stops : (n : ℕ) → Gives (one l a) (refused n) after → Gives (insert_all one l₀ all) (refused n) after
-    stops n u =
-        let whole : insert_all one l₀ all ≡ one l a = now_it ∙ then-refused (one l a) (insert_all one (one l a).library left) n (sym u.answers) in
+    pub next_stops : (n : ℕ) → Gives (one l a) (refused n) after → Gives (insert_all one l₀ all) (refused n) after
+    next_stops n u =
+        let whole : insert_all one l₀ all ≡ one l a = head_now ∙ then-refused (one l a) (insert_all one (one l a).library left) n (sym u.answers) in
         rw whole u
+
+-- ---- the same by number: l is the library after the first i of so many
+
+pub record Going {A : Type 0} (one : Library → A → Turn ℕ) (count : ℕ) (item : ℕ → A) (l₀ l : Library) (i : ℕ) : Type 0 where
+  pub upto : i ≤ count
+  pub ahead : insert_all one l₀ (tab count item) ≡ insert_all one l (drop i (tab count item))
+
+module _ {A : Type 0} (one : Library → A → Turn ℕ) (count : ℕ) (item : ℕ → A) where
+  pub starts : (l : Library) → Going one count item l l 0
+  starts l = record { upto = omega arith; ahead = refl }
+
+  module _ (l₀ l : Library) (i : ℕ) (g : Going one count item l₀ l i) (h : i < count) where
+    now_it : insert_all one l₀ (tab count item) ≡ and_then (one l (item i)) (one l (item i)).answer (insert_all one (one l (item i)).library (drop (suc i) (tab count item)))
+    now_it = g.ahead ∙ ap (insert_all one l) (drop-tab count item i h) ∙ all_cons one l (item i) (drop (suc i) (tab count item))
+
+    -- what its turn gives
+    module _ {after : Library} where
+      -- it is stored: go on
+      pub goes_on : (n : ℕ) → Gives (one l (item i)) (success n) after → Going one count item l₀ after (i + 1)
+      goes_on n u =
+          record {
+            upto = omega arith;
+            ahead = now_it ∙ then-success (one l (item i)) (insert_all one (one l (item i)).library (drop (suc i) (tab count item))) n (sym u.answers) ∙ rw (sym u.library-is, add-one);
+          }
+
+      -- it is turned away: that is the answer
+      pub stops : (n : ℕ) → Gives (one l (item i)) (refused n) after → Gives (insert_all one l₀ (tab count item)) (refused n) after
+      stops n u =
+          let whole : insert_all one l₀ (tab count item) ≡ one l (item i) =
+          now_it ∙ then-refused (one l (item i)) (insert_all one (one l (item i)).library (drop (suc i) (tab count item))) n
+          (sym u.answers) in
+          rw whole u
+
+  -- all are stored
+  pub all-taken : (l₀ l : Library) {i : ℕ} → Going one count item l₀ l i → count ≤ i → insert_all one l₀ (tab count item) ≡ record { library = l; answer = success l.used }
+  all-taken l₀ l {i} g h = g.ahead ∙ ap (insert_all one l) (drop_of_length-le (tab count item) {i = i} (rw (length-tab count item) h)) ∙ all_none one l
 
 -- ---- a mark
 

@@ -18,7 +18,7 @@ use Rattle.records.specs.declared.Record.{Record}
 use Rattle.records.specs.Records.{reading}
 use Rattle.loading.specs.Loading.{place_of, unless, records_of, insert_mark, insert_record, and_then, insert_all, leftover, finish, insert_bytes}
 use Rattle.loading.proofs.Chunks.{bytes-are, record_first, no_more}
-use Rattle.loading.proofs.InOrder.{no, all_none, all-used, all_sound, one-sound, goes_on, stops}
+use Rattle.loading.proofs.InOrder.{no, all_none, all-used, all_sound, one-sound, next_stored, next_stops}
 
 -- ---- one record
 
@@ -62,12 +62,12 @@ module _ (width : ℕ) (s : GridSearch) (bytes : List ℕ) (l₀ l : Library) wh
     module _ {after : Library} where
       -- it is stored: go on
       pub stored : (n : ℕ) → Gives (insert_record s l a) (success n) after → GoingOn width s bytes l₀ after left
-      stored n u = goes_on (insert_record s) (records_of width bytes) l₀ l a (records_of width left) next_one n u
+      stored n u = next_stored (insert_record s) (records_of width bytes) l₀ l a (records_of width left) next_one n u
 
       -- it is turned away: that is the answer
       pub stopped : (n : ℕ) → Gives (insert_record s l a) (refused n) after → Gives (insert_bytes width s l₀ bytes) (refused n) after
       stopped n u =
-          let t = stops (insert_record s) (records_of width bytes) l₀ l a (records_of width left) next_one n u in
+          let t = next_stops (insert_record s) (records_of width bytes) l₀ l a (records_of width left) next_one n u in
           rw (bytes-are s width l₀ bytes, finish-refused (leftover width bytes) marks n (sym t.answers)) t
 
   -- all are stored: the bytes left over decide

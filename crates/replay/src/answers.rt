@@ -101,6 +101,14 @@ impl<T: Stored, const N: usize> List<T, N> {
     }
 }
 
+// A setting: 0 where it is left out, and its value.
+// Kept: C takes both words as they stand in the file; an Option has no place for a flag such as 2, nor for a value beside 0.
+#[derive(Clone, Copy)]
+pub struct Setting<T> {
+    pub flag: u64,
+    pub value: T,
+}
+
 // The answers of a file that were not read yet.
 #[derive(Drop)]
 pub struct Answers {
@@ -128,11 +136,11 @@ impl Answers {
         outcome(self.read())
     }
 
-    // Whether it is given, and then its value.
-    pub fn setting<T: Stored>(&mut self) -> Option<T> {
-        let given: u64 = self.read();
-        let value = self.read();
-        (given != 0).then_some(value)
+    pub fn setting<T: Stored>(&mut self) -> Setting<T> {
+        Setting {
+            flag: self.read(),
+            value: self.read(),
+        }
     }
 
     // A list with its length in front, as much of it as fits.

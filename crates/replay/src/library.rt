@@ -94,12 +94,12 @@ impl Library {
         let given = outcome(capi::gemlab_grid_search_new(
             low.as_slice(),
             high.as_slice(),
-            u64::from(ndiv.is_some()),
-            ndiv.unwrap_or(0),
-            u64::from(tolerance.is_some()),
-            tolerance.unwrap_or(0.0),
-            u64::from(border.is_some()),
-            border.unwrap_or(0.0),
+            ndiv.flag,
+            ndiv.value,
+            tolerance.flag,
+            tolerance.value,
+            border.flag,
+            border.value,
             &mut self.numbers,
             &mut self.floats,
         ));
