@@ -93,8 +93,8 @@ module _ {A : Type 0} (one : Library → A → Turn ℕ) (count : ℕ) (item : �
   starts l = record { upto = omega arith; ahead = refl }
 
   module _ (l₀ l : Library) (i : ℕ) (g : Going one count item l₀ l i) (h : i < count) where
-    now_it : insert_all one l₀ (tab count item) ≡ and_then (one l (item i)) (one l (item i)).answer (insert_all one (one l (item i)).library (drop (suc i) (tab count item)))
-    now_it = g.ahead ∙ ap (insert_all one l) (drop-tab count item i h) ∙ all_cons one l (item i) (drop (suc i) (tab count item))
+    item_left : insert_all one l₀ (tab count item) ≡ insert_all one l (item i ∷ drop (suc i) (tab count item))
+    item_left = g.ahead ∙ ap (insert_all one l) (drop-tab count item i h)
 
     -- what its turn gives
     module _ {after : Library} where
@@ -103,16 +103,12 @@ module _ {A : Type 0} (one : Library → A → Turn ℕ) (count : ℕ) (item : �
       goes_on n u =
           record {
             upto = omega arith;
-            ahead = now_it ∙ then-success (one l (item i)) (insert_all one (one l (item i)).library (drop (suc i) (tab count item))) n (sym u.answers) ∙ rw (sym u.library-is, add-one);
+            ahead = next_stored one (tab count item) l₀ l (item i) (drop (suc i) (tab count item)) item_left n u ∙ rw add-one;
           }
 
       -- it is turned away: that is the answer
       pub stops : (n : ℕ) → Gives (one l (item i)) (refused n) after → Gives (insert_all one l₀ (tab count item)) (refused n) after
-      stops n u =
-          let whole : insert_all one l₀ (tab count item) ≡ one l (item i) =
-          now_it ∙ then-refused (one l (item i)) (insert_all one (one l (item i)).library (drop (suc i) (tab count item))) n
-          (sym u.answers) in
-          rw whole u
+      stops n u = next_stops one (tab count item) l₀ l (item i) (drop (suc i) (tab count item)) item_left n u
 
   -- all are stored
   pub all-taken : (l₀ l : Library) {i : ℕ} → Going one count item l₀ l i → count ≤ i → insert_all one l₀ (tab count item) ≡ record { library = l; answer = success l.used }

@@ -23,7 +23,8 @@ loop-record-preserved c =
     let l = c.loop-record in
     let step = c.in-Some.ensures.steps in (
       step.0 ∙ l.invariant.0,
-      stored a.width a.sheet a.bytes.now (lent_mut a.library.now) (lent_mut l.library) (omega (arith, c.if-width-eq0.false)) _ _ _ l.invariant.1 step.1.0 (step.1.1 ∙ l.invariant.0) _ c.in_ok-insert_record.ensures.inserts,
+      stored a.width a.sheet a.bytes.now (lent_mut a.library.now) (lent_mut l.library) (omega (arith, c.if-width-eq0.false)) _ _ _
+          l.invariant.1 step.1.0 (step.1.1 ∙ l.invariant.0) _ c.in_ok-insert_record.ensures.inserts,
       (cc, cc, cc, cc, cc),
     )
 
@@ -33,7 +34,8 @@ returns-in_err-insert_record-clause-inserts c =
     let l = c.loop-record in
     let step = c.in-Some.ensures.steps in
     rw (raised_answer _ c.in_err-insert_record.field-0.0 c.from_residual.result c.from_residual.ensures)
-    (stopped a.width a.sheet a.bytes.now (lent_mut a.library.now) (lent_mut l.library) (omega (arith, c.if-width-eq0.false)) _ _ _ l.invariant.1 step.1.0 (step.1.1 ∙ l.invariant.0) _ c.in_err-insert_record.ensures.inserts)
+    (stopped a.width a.sheet a.bytes.now (lent_mut a.library.now) (lent_mut l.library) (omega (arith, c.if-width-eq0.false)) _ _ _
+    l.invariant.1 step.1.0 (step.1.1 ∙ l.invariant.0) _ c.in_err-insert_record.ensures.inserts)
 
 pub returns-clause-inserts : goal.returns-clause-inserts
 returns-clause-inserts c =
