@@ -3,6 +3,7 @@ ghost use Rattle.std.specs.Prelude.{ℕ, ◌+◌, ◌≤◌, ◌<◌, ◌≡◌,
 ghost use Rattle.basics.specs.Lists.{all};
 
 // Keys, each once, in the order in which they came: so many of eight, since a box has no more corners.
+// Kept: no heap, so an array with a count.
 #[derive(Clone, Copy)]
 pub(crate) struct CellKeys {
     keys: [u64; 8],

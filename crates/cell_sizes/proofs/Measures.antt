@@ -165,24 +165,26 @@ module _ (n : ℕ) (m : Mesh) (t : Settings) where
     same_part : le p t.large_pct ≡ (measure n m t).apart
     same_part = rw (measured-apart, ← same-limit, q, s.large, k, ← length-boxes n m)
 
-    pub sized_apart : le p t.large_pct ≡ true → Sized n m t (record { limits = e.limits; apart = Some (record { limit = limit; count = f.large }); longest = unwrap_or f.longest zero_f })
+    pub sized_apart : le p t.large_pct ≡ true → Sized n m t (record { limits = e.limits; limit = limit; apart = Some (record { limit = limit; count = f.large }); longest = unwrap_or f.longest zero_f })
     sized_apart h =
         let z : (measure n m t).apart ≡ true = sym same_part ∙ h in
         record {
           low = a.low;
           high = a.high;
+          told = same-limit;
           limit = λ _. same-limit;
           apart = sym z;
           large = s.large ∙ rw (measured-large, z, ← same-limit);
           longest = s.longest ∙ rw (measured-longest, z, ← same-limit);
         }
 
-    pub sized_filed : le p t.large_pct ≡ false → Sized n m t (record { limits = e.limits; apart = None; longest = e.largest })
+    pub sized_filed : le p t.large_pct ≡ false → Sized n m t (record { limits = e.limits; limit = limit; apart = None; longest = e.largest })
     sized_filed h =
         let z : (measure n m t).apart ≡ false = sym same_part ∙ h in
         record {
           low = a.low;
           high = a.high;
+          told = same-limit;
           limit = λ f. absurd (false≢true f);
           apart = sym z;
           large = rw (measured-large, z);

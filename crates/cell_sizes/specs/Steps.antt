@@ -63,10 +63,11 @@ files s = is_filed (kept s.apart) (limit_in s.apart)
 abbrev pub lists : Sizes → List Box → List ℕ
 lists s = large_of (kept s.apart) (limit_in s.apart)
 
--- what the code holds of `measure`: the limit where it keeps large cells apart
+-- what the code holds of `measure`, and once more the limit of the cells that it keeps apart
 pub record Sized (n : ℕ) (m : Mesh) (t : Settings) (r : Sizes) : Type 0 where
   pub low : coords n r.limits.low ≡ least (map (λ (b : Box). b.low) (boxes n m))
   pub high : coords n r.limits.high ≡ greatest (map (λ (b : Box). b.high) (boxes n m))
+  pub told : r.limit ≡ (measure n m t).limit
   pub limit : kept r.apart ≡ true → limit_in r.apart ≡ (measure n m t).limit
   pub apart : kept r.apart ≡ (measure n m t).apart
   pub large : count_in r.apart ≡ length (measure n m t).large

@@ -45,6 +45,8 @@ pub struct Apart {
 #[derive(Clone, Copy)]
 pub struct Sizes {
     pub limits: BoundingBox,
+    // from which length a cell is large
+    pub limit: f64,
     // where the percentage keeps the large cells apart
     pub apart: Option<Apart>,
     // the largest length of the cells that are filed
@@ -172,6 +174,7 @@ pub fn measure(mesh: WholeMesh, settings: Settings) -> Sizes
     if part(found.large, mesh.cell_count()) <= settings.large_pct {
         return Sizes {
             limits,
+            limit,
             apart: Some(Apart {
                 limit,
                 count: found.large,
@@ -181,6 +184,7 @@ pub fn measure(mesh: WholeMesh, settings: Settings) -> Sizes
     }
     Sizes {
         limits,
+        limit,
         apart: None,
         longest: all.largest,
     }

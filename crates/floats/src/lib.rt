@@ -77,7 +77,7 @@ fn guess(m: Radicand) -> Significand {
 // The whole number nearest to √(m.units * 2^52), where that is q, q - 1 or q + 1, and else perhaps none.
 // The product q * q takes two words. With q = a * 2^27 + b it is summed up from its upper digits
 // down, and each sum that is too large for one word ends the work.
-// Kept: with `checked_sub` and `?` a root takes 24.1 ns and not 21.2, and its aim leaves nothing to spare (docs/PERFORMANCE.md).
+// Kept: with `checked_sub` and `?` a root takes a seventh longer: past its aim on the second machine (docs/PERFORMANCE.md).
 fn corrected(m: Radicand, guess: Significand) -> Option<u64>
     ensures { IfSome result (λ q. Rounded (m.units * 2 ^ 52) q) }
 {

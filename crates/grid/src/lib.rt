@@ -191,7 +191,7 @@ fn combined(ndiv: Divisions, pivot: Pivot) -> u64
 
 // The container that a position falls into, or none where a ratio exceeds its divisions. In 2D the third axis, with one division
 // and the index 0, adds nothing.
-// Kept: a struct that holds the fact would be made anew before each of a dozen calls, of the fields of a sheet or an index.
+// Kept: nine callers have this of a sheet or an index, and each would make a struct of two of its fields for this call.
 pub fn calc_container_key(
     ndim: Dimension,
     side_length: f64,
@@ -214,7 +214,7 @@ pub fn calc_container_key(
 }
 
 // How many containers there are.
-// Kept: a struct that holds the fact would be made anew before each of a dozen calls, of the fields of a sheet or an index.
+// Kept: nine callers have this of a sheet or an index, and each would make a struct of two of its fields for this call.
 pub fn container_count(ndim: Dimension, ndiv: Divisions) -> u64
     requires divisions { all division (counts ndim.n ndiv) ≡ true }
     ensures { result ≡ containers (counts ndim.n ndiv) }
@@ -224,7 +224,7 @@ pub fn container_count(ndim: Dimension, ndiv: Divisions) -> u64
 }
 
 // The indices of a container. In 2D the third is 0.
-// Kept: a struct that holds the fact would be made anew before each of a dozen calls, of the fields of a sheet or an index.
+// Kept: nine callers have this of a sheet or an index, and each would make a struct of two of its fields for this call.
 pub fn pivot_indices(ndim: Dimension, ndiv: Divisions, key: ContainerKey) -> Pivot
     requires divisions { all division (counts ndim.n ndiv) ≡ true }
     requires key_in_range { key.0 < containers (counts ndim.n ndiv) }
@@ -248,7 +248,7 @@ fn middle(side_length: f64, xmin: f64, i: u64) -> f64
 }
 
 // The centre of a container.
-// Kept: a struct that holds the fact would be made anew before each of a dozen calls, of the fields of a sheet or an index.
+// Kept: nine callers have this of a sheet or an index, and each would make a struct of two of its fields for this call.
 pub fn container_center(
     ndim: Dimension,
     side_length: f64,

@@ -104,7 +104,7 @@ fn side_along(xmin: f64, xmax: f64, n: u64) -> f64
 }
 
 // The side of the square or cubic containers: the largest along an axis.
-// Kept: a struct that holds the fact would be made anew before each of a dozen calls, of the fields of a sheet or an index.
+// Kept: nine callers have this of a sheet or an index, and each would make a struct of two of its fields for this call.
 fn side(ndim: Dimension, xmin: Position, xmax: Position, ndiv: Divisions) -> f64
     requires divisions { all division (counts ndim.n ndiv) ≡ true }
     ensures { result ≡ side_of (coords ndim.n xmin) (coords ndim.n xmax) (counts ndim.n ndiv) }
@@ -127,7 +127,7 @@ fn end_along(xmin: f64, side: f64, n: u64) -> f64
 }
 
 // The high corner of the containers, which cover the box.
-// Kept: a struct that holds the fact would be made anew before each of a dozen calls, of the fields of a sheet or an index.
+// Kept: nine callers have this of a sheet or an index, and each would make a struct of two of its fields for this call.
 pub fn covered(ndim: Dimension, xmin: Position, side: f64, ndiv: Divisions) -> Position
     requires divisions { all division (counts ndim.n ndiv) ≡ true }
     ensures { result ≡ position_of (covered_of side (coords ndim.n xmin) (counts ndim.n ndiv)) }

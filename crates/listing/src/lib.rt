@@ -44,7 +44,7 @@ pub enum Filter {
 }
 
 // What turns a place and a filter away: 16, 3, and 15 where a row is in use.
-// Kept: a sheet from C may have any number of axes; a type of sheets with 2 or 3 would be made of it by each of the callers.
+// Kept: `SoundLibrary` and `Walk` above hold this; a type for the sheet alone would be made of theirs for this one call.
 #[tactic(auto, using(crate::proofs::Places::right_lengths), unfolding(crate::specs::Place::place_tests, basics::specs::Refusals::fault))]
 fn place_fault(sheet: GridSearch, used: usize, place: Place, filter: Filter) -> Result<(), Refusal>
     requires { dimension sheet.ndim ≡ true }
@@ -164,7 +164,7 @@ pub fn search_on_place(
 
 // Lists the marks on the line through a and b, as `search_on` lists those on a place. Refused with the first of 24, 13, 16
 // (the filter), 2, 3, 15 and 14 that applies, the list as it was; so is each of the calls below.
-// Kept: by C's number of the place, since its slices are judged between 16 and 3: a `Place` is of positions.
+// Kept: as `search_on_place`, by C's number: its slices are judged (2) between 16 and 3, and a `Place` is made of positions.
 #[tactic(auto, unfolding(crate::specs::Place::asked_of))]
 pub fn search_on_line(
     sheet: GridSearch,
@@ -180,7 +180,7 @@ pub fn search_on_line(
 }
 
 // Lists the marks on the circle of a centre and a radius, in the plane: 24, 13, 16, 2, 3, 14.
-// Kept: by C's number of the place, since its slices are judged between 16 and 3: a `Place` is of positions.
+// Kept: as `search_on_place`, by C's number: its slices are judged (2) between 16 and 3, and a `Place` is made of positions.
 #[tactic(auto, unfolding(crate::specs::Place::asked_of))]
 pub fn search_on_circle(
     sheet: GridSearch,
@@ -196,7 +196,7 @@ pub fn search_on_circle(
 }
 
 // Lists the marks on the cylinder in space whose axis goes through a and b: 24, 13, 16, 2, 3, 15, 14.
-// Kept: by C's number of the place, since its slices are judged between 16 and 3: a `Place` is of positions.
+// Kept: as `search_on_place`, by C's number: its slices are judged (2) between 16 and 3, and a `Place` is made of positions.
 #[tactic(auto, unfolding(crate::specs::Place::asked_of))]
 pub fn search_on_cylinder(
     sheet: GridSearch,

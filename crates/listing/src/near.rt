@@ -61,7 +61,7 @@ fn line_of(ndim: Dimension, place: Place) -> Line
 
 // The place made ready: for a container's centre distances up to container radius + tol_dist count, for a point those
 // whose magnitude is at most tol_dist.
-// Kept: a sheet from C may have any number of axes; a type of sheets with 2 or 3 would be made of it by each of the callers.
+// Kept: `SoundLibrary` and `Walk` above hold this; a type for the sheet alone would be made of theirs for this one call.
 pub(crate) fn made_ready(sheet: GridSearch, place: Place) -> Ready
     requires { dimension sheet.ndim ≡ true }
     ensures made { MadeFor sheet result }
@@ -129,7 +129,7 @@ fn magnitude(x: f64) -> f64
 }
 
 // The centre of a container.
-// Kept: a sheet from C may have any number of axes; a type of sheets with 2 or 3 would be made of it by each of the callers.
+// Kept: `SoundLibrary` and `Walk` above hold this; a type for the sheet alone would be made of theirs for this one call.
 fn center_of(sheet: GridSearch, key: ContainerKey) -> Position
     requires divided { Divided sheet }
     requires key { key.0 < containers (counts sheet.ndim sheet.ndiv) }
@@ -140,7 +140,7 @@ fn center_of(sheet: GridSearch, key: ContainerKey) -> Position
 }
 
 // Whether a container's centre is within container radius + tol_dist of the place, by the signed distance.
-// Kept: a sheet from C may have any number of axes; a type of sheets with 2 or 3 would be made of it by each of the callers.
+// Kept: `SoundLibrary` and `Walk` above hold this; a type for the sheet alone would be made of theirs for this one call.
 pub(crate) fn container_near(sheet: GridSearch, r: Ready, key: ContainerKey) -> bool
     requires divided { Divided sheet }
     requires fit { unfit sheet.ndim (asked sheet.ndim r.place) ≡ false }
@@ -153,7 +153,7 @@ pub(crate) fn container_near(sheet: GridSearch, r: Ready, key: ContainerKey) -> 
 }
 
 // Whether a point is within tol_dist of the place, by the magnitude of its distance, and kept by the filter.
-// Kept: a sheet from C may have any number of axes; a type of sheets with 2 or 3 would be made of it by each of the callers.
+// Kept: `SoundLibrary` and `Walk` above hold this; a type for the sheet alone would be made of theirs for this one call.
 pub(crate) fn point_counts(sheet: GridSearch, r: Ready, filter: Filter, x: Position) -> bool
     requires axes { dimension sheet.ndim ≡ true }
     requires fit { unfit sheet.ndim (asked sheet.ndim r.place) ≡ false }

@@ -81,6 +81,7 @@ fn answer_after(left: &[u8], rows: usize) -> Result<usize, Refusal>
 
 // Inserts the marks of the whole records of this width in order, up to the first that is turned away; bytes left over are
 // judged last. A file of any length is inserted part by part, each but the last of whole records.
+// Kept: what the request asks with, in its order; a struct of it would be taken apart at once.
 pub fn insert_records(
     sheet: GridSearch,
     library: &mut LibraryMut,

@@ -27,6 +27,7 @@ pub fn grid_cells(
 }
 
 // `cell_search::search` of a view. The dimension is the index's; the view's is not read.
+// Kept: what the request asks with, in its order; a struct of it would be taken apart at once.
 pub fn search_in(
     mesh: Mesh,
     grid: GridCells,

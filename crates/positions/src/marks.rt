@@ -52,6 +52,7 @@ impl fmt::Display for Found {
 }
 
 // A library with room for N rows.
+// Kept: no heap, so arrays with a count; C lends each by itself.
 #[derive(Drop)]
 struct Library<const N: usize> {
     keys: [u64; N],

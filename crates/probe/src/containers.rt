@@ -25,6 +25,7 @@ fn grid_of(ndim: usize, ndiv: Divisions) -> Option<Grid>
     }
 }
 
+// Kept: C gets a number: this one for no container, and the next for no grid.
 fn key_number(located: Option<ContainerKey>) -> u64
     ensures { result ≡ key_number located }
 {

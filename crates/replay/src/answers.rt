@@ -81,6 +81,7 @@ pub fn outcome(number: u64) -> Result<(), Refused>
 }
 
 // A list of at most N entries.
+// Kept: no heap, so an array with a count.
 #[derive(Drop)]
 pub struct List<T, const N: usize> {
     entries: [T; N],
