@@ -57,7 +57,7 @@ fn is_layout_sound(library: Library) -> bool
 }
 
 // The row before one: its key plus one, and its id; or 0 where there is none.
-// Kept: with an Option of a pair, and its order, a row takes a fifth longer: in 3D past plain Rust's walk (docs/PERFORMANCE.md).
+// Kept: with an Option of a pair, and its order, a row takes a fifth longer, farther from its aim (docs/PERFORMANCE.md).
 #[derive(Clone, Copy)]
 struct Before {
     bound: u64,
