@@ -165,7 +165,13 @@ module _ (n : ℕ) (m : Mesh) (t : Settings) where
     same_part : le p t.large_pct ≡ (measure n m t).apart
     same_part = rw (measured-apart, ← same-limit, q, s.large, k, ← length-boxes n m)
 
-    pub sized_apart : le p t.large_pct ≡ true → Sized n m t (record { limits = e.limits; limit = limit; apart = Some (record { limit = limit; count = f.large }); longest = unwrap_or f.longest zero_f })
+    pub sized_apart : le p t.large_pct ≡ true
+        → Sized n m t (record {
+          limits = e.limits;
+          limit = limit;
+          apart = Some (record { limit = limit; count = f.large });
+          longest = unwrap_or f.longest zero_f;
+        })
     sized_apart h =
         let z : (measure n m t).apart ≡ true = sym same_part ∙ h in
         record {
