@@ -17,6 +17,7 @@ strike strike
 search search
 listing search_on search_on_place
 listing search_on_line search_on_circle search_on_cylinder
+listing search_on_plane_xy search_on_plane_yz search_on_plane_xz
 directory build look_up
 directory_insert insert
 directory_strike strike

@@ -10,7 +10,7 @@ ghost use Rattle.basics.specs.Answers.{fault_in};
 ghost use Rattle.basics.specs.Refusals.{fault};
 ghost use Rattle.geometry.specs.Axes.{dimension};
 ghost use Rattle.table.specs.Lent.{lent};
-ghost use Rattle.listing.specs.Place.{line, circle, cylinder, asked_of, asked, place_tests};
+ghost use Rattle.listing.specs.Place.{line, circle, cylinder, plane, asked_of, asked, place_tests};
 ghost use Rattle.listing.specs.Listing.{listing, Lists};
 ghost use Rattle.std.specs.Prelude.{◌≡◌, true, ltb};
 
@@ -210,4 +210,46 @@ pub fn search_on_cylinder(
     ensures { Lists (listing sheet (lent library.entry) (cylinder a.now b.now radius) filter list.old) result list.new }
 {
     search_on_place(sheet, library, 2, a, b, radius, filter, list)
+}
+
+// Lists the marks on the plane parallel to x and y at a z, in space: 24, 13, 16, 3, 14.
+#[tactic(auto, unfolding(crate::specs::Place::asked))]
+pub fn search_on_plane_xy(
+    sheet: GridSearch,
+    library: Library,
+    z: f64,
+    filter: Filter,
+    list: &mut [u64],
+) -> Result<usize, Refusal>
+    ensures { Lists (listing sheet (lent library.entry) (plane 2 z) filter list.old) result list.new }
+{
+    search_on(sheet, library, Place::PlaneXY(z), filter, list)
+}
+
+// Lists the marks on the plane parallel to y and z at an x, in space: 24, 13, 16, 3, 14.
+#[tactic(auto, unfolding(crate::specs::Place::asked))]
+pub fn search_on_plane_yz(
+    sheet: GridSearch,
+    library: Library,
+    x: f64,
+    filter: Filter,
+    list: &mut [u64],
+) -> Result<usize, Refusal>
+    ensures { Lists (listing sheet (lent library.entry) (plane 0 x) filter list.old) result list.new }
+{
+    search_on(sheet, library, Place::PlaneYZ(x), filter, list)
+}
+
+// Lists the marks on the plane parallel to x and z at a y, in space: 24, 13, 16, 3, 14.
+#[tactic(auto, unfolding(crate::specs::Place::asked))]
+pub fn search_on_plane_xz(
+    sheet: GridSearch,
+    library: Library,
+    y: f64,
+    filter: Filter,
+    list: &mut [u64],
+) -> Result<usize, Refusal>
+    ensures { Lists (listing sheet (lent library.entry) (plane 1 y) filter list.old) result list.new }
+{
+    search_on(sheet, library, Place::PlaneXZ(y), filter, list)
 }
