@@ -23,7 +23,18 @@ pub fn grid_cells(
         (settings_of given.tolerance given.border_tol given.large_cutoff given.large_pct) (lent_mut lists.old) }
     ensures same_lists { SameLists lists.old lists.new }
 {
-    GridCells::build(mesh, given.in_force(), lists)
+    GridCells::new(
+        mesh.ndim,
+        mesh.coords,
+        mesh.corners,
+        given.tolerance,
+        given.border_tol,
+        given.large_cutoff,
+        given.large_pct,
+        lists.keys,
+        lists.cells,
+        lists.large,
+    )
 }
 
 // `cell_search::search` of a view. The dimension is the index's; the view's is not read.
@@ -37,7 +48,16 @@ pub fn search_in(
 ) -> Result<Option<CellId>, Refusal>
     ensures { leaves result zeta.new ≡ cell_search grid (seen mesh.entry) (lent lists.entry) zeta.old x.now }
 {
-    cell_search::search_mesh(mesh, grid, lists, x, zeta)
+    cell_search::search(
+        grid,
+        mesh.coords,
+        mesh.corners,
+        lists.keys,
+        lists.cells,
+        lists.large,
+        x,
+        zeta,
+    )
 }
 
 // The index of a mesh, built through its view: `GridCells::new` for callers that have no view.
