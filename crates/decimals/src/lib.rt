@@ -16,8 +16,12 @@ use text::Writer;
 fn with_digit(n: u64, byte: u8) -> Option<u64>
     ensures { number_read result ≡ with_digit n byte }
 {
-    let digit = char::from(byte).to_digit(10)?;
-    n.checked_mul(10)?.checked_add(u64::from(digit))
+    let digit = u64::from(char::from(byte).to_digit(10)?);
+    // up to eighteen digits leave room for one more, and that costs one test in place of two
+    if n < 1_000_000_000_000_000_000 {
+        return Some(n * 10 + digit);
+    }
+    n.checked_mul(10)?.checked_add(digit)
 }
 
 // The number that a field of digits is, if it fits: one digit or more, and at most this many.
