@@ -170,16 +170,16 @@ module _ (text : List ℕ) (at : ℕ) (h : at < length text) where
         (lines_last rest (omega (arith, length_rest)) (leading_unfound 10 rest (rw onward_rest at e)));
   }
 
-  pub line_found : (n : ℕ) (line : List ℕ) → Some n ≡ position (λ b. eqb b 10) onward → line ≡ without_cr (take n onward)
-      → IsLine text at (record { end = at + length line; next = at + n + 1 })
-  line_found n line e f =
+  pub line_found : (n end next : ℕ) (line : List ℕ) → Some n ≡ position (λ b. eqb b 10) onward → line ≡ without_cr (take n onward)
+      → end ≡ at + length line → next ≡ at + n + 1 → IsLine text at (record { end = end; next = next })
+  line_found n end next line e f p q =
       let k = leading_found 10 rest n (rw onward_rest at e) in
       let w : line ≡ without_cr (take n rest) = rw onward_rest at f in
       let piece : length (take n rest) ≡ n = length-take-le n rest (omega (arith, k.1)) in
       let most : length line ≤ n = omega (arith, ap length w, without-most (take n rest), piece) in
       let front : line ≡ take (length line) rest = w ∙ without-front (take n rest) ∙ rw (← w) (take-take (length line) n rest most) in
-      let same : at + length line - at ≡ length line = omega arith in
-      let past : at + suc n ≡ at + n + 1 = omega arith in
+      let same : end - at ≡ length line = omega arith in
+      let past : at + suc n ≡ next = omega arith in
       record {
         starts = omega arith;
         ends = omega (arith, most, k.1, length_rest);
