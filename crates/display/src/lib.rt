@@ -131,6 +131,7 @@ fn pick_ids(order: &mut [u16], ids: &[u64]) -> usize
 }
 
 // 0, 1, ..: only what is used of an array is numbered, for a library has mostly few rows.
+// Kept: it fills a list with its indices, and converts no value.
 fn number(order: &mut [u16])
     requires { length order.old ≤ 65536 }
     ensures same { length order.new ≡ length order.old }

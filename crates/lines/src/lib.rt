@@ -45,6 +45,7 @@ pub struct Line {
 }
 
 // The line that starts at an index of a text.
+// Kept: the index is a place in the text, which a caller may go on from, and is not its length.
 pub fn line_at(text: &[u8], at: usize) -> Line
     requires { at < length text.now }
     ensures { IsLine text.now at result }
