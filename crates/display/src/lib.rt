@@ -130,12 +130,16 @@ fn pick_ids(order: &mut [u16], ids: &[u64]) -> usize
     sorting::select_by(order, ids)
 }
 
-// 0, 1, .., for as many rows as a library may have.
-fn indices() -> [u16; 65536]
-    ensures all { 65536 ≡ length result }
-    ensures numbered { Numbered result }
+// 0, 1, ..: only what is used of an array is numbered, for a library has mostly few rows.
+// Kept: it fills a list with its indices, and converts no value.
+fn number(order: &mut [u16])
+    requires { length order.old ≤ 65536 }
+    ensures same { length order.new ≡ length order.old }
+    ensures numbered { Numbered order.new }
 {
-    std::array::from_fn(|i| i as u16)
+    for (i, entry) in order.iter_mut().enumerate() {
+        *entry = i as u16;
+    }
 }
 
 // The text is put twice: first into no buffer, which tells how long it is.
@@ -147,8 +151,9 @@ fn show(divisions: &[u64], keys: &[u64], ids: &[u64], buffer: &mut [u8]) -> Resu
     ensures shows { Shows (fitted (slots_text divisions.now (slots_of keys.now ids.now (length keys.now))) buffer.old) result buffer.new }
     ensures most { length (slots_text divisions.now (slots_of keys.now ids.now (length keys.now))) ≤ most_bytes (length keys.now) }
 {
-    let mut indices = indices();
+    let mut indices = [0u16; 65536];
     let order = &mut indices[..ids.len()];
+    number(order);
     let n = pick_ids(order, ids);
     let contents = Contents {
         divisions,

@@ -2,7 +2,6 @@
 -- Assumes nothing.
 use Prim.Native.Nat.{ℕ, zero, suc, ◌+◌, ◌-◌, ◌≤◌, ◌<◌}
 use native.Mathlib.Nat.{eq-or-lt_of_le, le-suc}
-use native.Mathlib.Numerals.{add-one}
 use native.Mathlib.Omega.{arith}
 use mathlib.Core.Logic.{⊎_elim}
 use mathlib.Core.Path.{◌≡◌, refl, sym, ap, ◌∙◌}
@@ -16,12 +15,14 @@ use Rattle.std.specs.Option.{MatchOption, unwrap_or}
 use Rattle.std.proofs.Common.{Option, Some, None}
 use borrow.Author.Tests.{eq-eqb, ne_eqb, eqb-true}
 use lib.ListN.{length, get_or, take, drop, length-drop, drop_of_length-le}
-use lib.Seq.{drop-cons, take_all}
+use lib.Seq.{drop-cons, drop-drop, take_all, take-take, length-take-le}
 use Rattle.basics.specs.Lists.{leading, has}
 use Rattle.basics.proofs.Bools.{by_test, clash, and_left}
 use Rattle.basics.proofs.Lists.{leading-most}
 use Rattle.lines.specs.Pieces.{onto, split}
 use Rattle.lines.specs.Lines.{without_cr, ended, lines}
+use Rattle.lines.specs.Posts.{IsLine}
+use Rattle.lines.specs.declared.Line.{Line}
 use Rattle.lines.proofs.Pieces.{leading_found, leading_unfound, split-some, split-first, split-none, split-joined}
 
 -- ---- one CR at the end of a piece
@@ -102,20 +103,17 @@ lines-most (x ∷ s) =
     (λ e. rw (e, ended-cons [] (split 10 s) (split-some 10 s)) (omega (arith, lines-most s)))
     (λ e. rw e (omega (arith, onto-most x (split 10 s), lines-most s)))
 
--- ---- the first line: a law for each way out of `first_line`
+-- ---- the first line
 
 pub first-none : (s : List ℕ) → true ≡ eqb (length s) 0 → lines s ≡ []
 first-none [] e = lines_none
 first-none (x ∷ s) e = absurd (omega (arith, eqb-true (length (x ∷ s)) 0 (sym e)))
 
-pub first-last : (s : List ℕ) → None ≡ position (λ b. eqb b 10) s → 0 < length s → lines s ≡ s ∷ lines []
-first-last s e h = rw lines_none (lines_last s h (leading_unfound 10 s e))
-
-pub first-found : (s line : List ℕ) (n : ℕ) → Some n ≡ position (λ b. eqb b 10) s → line ≡ without_cr (take n s) → lines s ≡ line ∷ lines (take (length s - (n + 1)) (drop (n + 1) s))
-first-found s line n e f =
-    let k = leading_found 10 s n e in
-    let whole : take (length s - (n + 1)) (drop (n + 1) s) ≡ drop (n + 1) s = take_all (length s - (n + 1)) (drop (n + 1) s) (rw length-drop (omega arith)) in
-    rw (f, whole, add-one) (rw k.0 at (lines-first s (omega (arith, k.0, k.1))))
+-- what is there of the line at the text's start, as the code's slices give it
+pub first-line : (s : List ℕ) (r : Line) → IsLine s 0 r → lines s ≡ take r.end s ∷ lines (take (length s - r.next) (drop r.next s))
+first-line s r l =
+    let end : r.end - 0 ≡ r.end = omega arith in
+    rw (take_all (length s - r.next) (drop r.next s) (omega (arith, length-drop r.next s))) (rw end at l.first)
 
 -- as the code takes a CR away
 last : (s : List ℕ) (n : ℕ) → length s ≡ suc n → drop n s ≡ get_or s n 0 ∷ []
@@ -130,3 +128,62 @@ without-stripped s None whole w e =
 without-stripped s (Some x) whole w e =
     let l : length s ≡ suc (length s - 1) = omega arith in
     without-cut s (length s - 1) l (eqb-true _ _ (and_left _ true (rw (last s (length s - 1) l) at e.0))) ∙ sym e.1
+
+-- ---- the line at an index: a law for each way out of `line_at`
+
+pub without-most : (s : List ℕ) → length (without_cr s) ≤ length s
+unfolding without_cr
+without-most [] = omega arith
+without-most (x ∷ []) = by_test (eqb x 13) (λ e. rw e (omega arith)) (λ e. rw e (omega arith))
+without-most (x ∷ y ∷ ys) = omega (arith, without-most (y ∷ ys))
+
+-- what is left of a piece stands at its front
+without-front : (s : List ℕ) → without_cr s ≡ take (length (without_cr s)) s
+unfolding without_cr
+without-front [] = refl
+without-front (x ∷ []) = by_test (eqb x 13) (λ e. rw e) (λ e. rw e)
+without-front (x ∷ y ∷ ys) = ap (λ (r : List ℕ). x ∷ r) (without-front (y ∷ ys))
+
+module _ (text : List ℕ) (at : ℕ) (h : at < length text) where
+  abbrev rest : List ℕ
+  rest = drop at text
+
+  length_rest : length rest ≡ length text - at
+  length_rest = length-drop at text
+
+  -- the slice from the index on
+  abbrev onward : List ℕ
+  onward = take (length text - at) rest
+
+  onward_rest : onward ≡ rest
+  onward_rest = take_all (length text - at) rest (omega (arith, length_rest))
+
+  pub line_last : None ≡ position (λ b. eqb b 10) onward → IsLine text at (record { end = length text; next = length text })
+  line_last e = record {
+    starts = omega arith;
+    ends = omega arith;
+    onward = h;
+    within = omega arith;
+    first =
+        let all : take (length text - at) rest ≡ rest = onward_rest in
+        rw (all, drop_of_length-le text {i = length text} (omega arith), lines_none)
+        (lines_last rest (omega (arith, length_rest)) (leading_unfound 10 rest (rw onward_rest at e)));
+  }
+
+  pub line_found : (n end next : ℕ) (line : List ℕ) → Some n ≡ position (λ b. eqb b 10) onward → line ≡ without_cr (take n onward)
+      → end ≡ at + length line → next ≡ at + n + 1 → IsLine text at (record { end = end; next = next })
+  line_found n end next line e f p q =
+      let k = leading_found 10 rest n (rw onward_rest at e) in
+      let w : line ≡ without_cr (take n rest) = rw onward_rest at f in
+      let piece : length (take n rest) ≡ n = length-take-le n rest (omega (arith, k.1)) in
+      let most : length line ≤ n = omega (arith, ap length w, without-most (take n rest), piece) in
+      let front : line ≡ take (length line) rest = w ∙ without-front (take n rest) ∙ rw (← w) (take-take (length line) n rest most) in
+      let same : end - at ≡ length line = omega arith in
+      let past : at + suc n ≡ next = omega arith in
+      record {
+        starts = omega arith;
+        ends = omega (arith, most, k.1, length_rest);
+        onward = omega arith;
+        within = omega (arith, k.1, length_rest);
+        first = rw (same, ← front, w, ← past, ← drop-drop (suc n) at text) (rw k.0 at (lines-first rest (omega (arith, k.0, k.1))));
+      }
