@@ -1,6 +1,8 @@
--- Laws: of sorted lists, which callers cite, and of the walk that leaves out repeats.
+-- Laws: of sorted lists, which callers cite, of marks sorted by parts, and of the walk that leaves out repeats.
 pub mod Ascent
 pub mod Counts
 pub mod Orders
+pub mod Mixes
+pub mod Splits
 pub mod Distinct
 pub mod Marks
