@@ -1,6 +1,6 @@
 -- The walk over the rows, from container to container: what a row and a container add to the rows gathered, what is gathered at its end, and what the ids written are.
 -- Assumes nothing.
-use Rattle.std.proofs.Common.{ℕ, zero, suc, ◌≡◌, ◌≢◌, ◌+◌, ◌-◌, ◌≤◌, ◌<◌, refl, sym, ap, ◌∙◌, subst, Bool, true, false, cond, ◌&&◌, List, [], ◌∷◌, ◌++◌, map, append-nil, eqb, ltb, length, get_or, take, drop, set, Option, Some, None, Result, Ok, Err, arith, add-one}
+use Rattle.std.proofs.Common.{ℕ, zero, suc, ◌≡◌, ◌≢◌, ◌+◌, ◌-◌, ◌≤◌, ◌<◌, refl, sym, ap, ◌∙◌, subst, Bool, true, false, cond, ◌&&◌, List, [], ◌∷◌, ◌++◌, map, append-nil, eqb, ltb, length, get_or, take, drop, set, Option, Result, Ok, Err, arith, add-one}
 use mathlib.Core.List.{map-append}
 use Rattle.std.proofs.lemmas.List.{map_more}
 use lib.ListN.{length-append, length-drop, length-map, length-set}
@@ -23,6 +23,7 @@ use Rattle.sorting.specs.Posts.{mark_id, Indices}
 use Rattle.listing.specs.declared.Place.{Place}
 use Rattle.listing.specs.declared.Filter.{Filter}
 use Rattle.listing.specs.declared.walk.Reached.{Reached}
+use Rattle.listing.specs.declared.walk.Marked.{Marked}
 use Rattle.listing.specs.Place.{Asked, asked, is_on, container_near, point_near, passes}
 use Rattle.listing.specs.Listing.{ids_of}
 use Rattle.basics.specs.Filled.{fill}
@@ -121,7 +122,7 @@ module _ {s : GridSearch} {p : Place} {f : Filter} {l : Library} where
       let e : i + d + 1 ≡ i + suc d = omega arith in
       subst (λ (k : ℕ). Gathered s p f l k n marks) e (gathered_passed (gathered-beyond d g (λ j a b. far j a (omega arith))) (far (i + d) (omega arith) (omega arith)))
 
--- ---- the rows of a near container, the first of which is row `first`, behind the first `marked` marks
+-- ---- the rows of a near container from row `first` on, behind the first `marked` marks
 
 pub record Marking (s : GridSearch) (p : Place) (f : Filter) (l : Library) (first marked : ℕ) (marks₀ : List ℕ) (row n : ℕ) (marks : List ℕ) : Type 0 where
   pub same_length : length marks ≡ length marks₀
@@ -145,16 +146,26 @@ module _ {s : GridSearch} {p : Place} {f : Filter} {l : Library} where
     }
 
     -- no place would be left
-    pub marking_full : {end : ℕ} (b : Bool) (m : ℕ) → (b ≡ true → m ≡ n + 1) → (b ≡ false → m ≡ n + 0) → m ≡ length (set marks n row) → row < end
-        → Marks s p f l first end marked (set marks n row) None
-    marking_full {end} b m one none full h = (
-      by_test b (λ q. omega (arith, one q, full, w.here.upto)) (λ q. absurd (omega (arith, none q, full, w.room, length-set marks n row))),
-      omega (arith, length-set marks n row, w.room, w.past),
-      gathered_behind n row w.past w.before,
-    )
+    pub marking_full : {end : ℕ} (b : Bool) (m : ℕ) → (b ≡ true → m ≡ n + 1) → (b ≡ false → m ≡ n + 0) → m ≡ length (set marks n row) → first ≤ row → row < end
+        → Marks s p f l first end marked (set marks n row) (record { row = row; marked = n })
+    marking_full {end} b m one none full past h = record {
+      from = past;
+      upto = omega arith;
+      inside = omega (arith, length-set marks n row, w.room);
+      full = λ t. by_test b (λ q. omega (arith, one q, full)) (λ q. absurd (omega (arith, none q, full, w.room, length-set marks n row)));
+      before = gathered_behind n row w.past w.before;
+      gathered = gathered_behind n row (omega arith) w.here;
+    }
 
-    pub marking_end : {end : ℕ} → row ≡ end → Marks s p f l first end marked marks (Some n)
-    marking_end {end} e = (w.room, subst (λ (k : ℕ). Gathered s p f l k n marks) e w.here)
+    pub marking_end : {end : ℕ} → first ≤ end → row ≡ end → Marks s p f l first end marked marks (record { row = end; marked = n })
+    marking_end {end} past e = record {
+      from = past;
+      upto = omega arith;
+      inside = w.room;
+      full = λ t. absurd (omega arith);
+      before = w.before;
+      gathered = subst (λ (k : ℕ). Gathered s p f l k n marks) e w.here;
+    }
 
 -- ---- a container: near, with all its rows, or far, and then passed
 
@@ -164,39 +175,70 @@ module _ (s : GridSearch) (p : Place) (f : Filter) (l : Library) where
     all_near near i a b = ap (container_near s (asked s.ndim p)) (end_alike l.keys l.used first k h i a (omega arith)) ∙ sym near
 
     pub far_passed : {marked : ℕ} {marks : List ℕ} → false ≡ container_near s (asked s.ndim p) (get_or l.keys first 0) → marked < length marks
-        → Gathered s p f l first marked marks → Marks s p f l first end marked marks (Some marked)
+        → Gathered s p f l first marked marks → Marks s p f l first end marked marks (record { row = end; marked = marked })
     far_passed {marked} {marks} far room g =
         let past : first < end = omega (arith, end_past l.keys l.used first k h) in
         let e : first + (end - first) ≡ end = omega arith in
         let all_far : (j : ℕ) → first ≤ j → j < first + (end - first) → on s p f (row_at l j) ≡ false =
         λ j a b. row_far s (asked s.ndim p) f (row_at l j) (ap (container_near s (asked s.ndim p)) (end_alike l.keys l.used first k h j a (omega arith)) ∙ sym far) in
-        (room, subst (λ (n : ℕ). Gathered s p f l n marked marks) e (gathered-beyond (end - first) g all_far))
+        record {
+          from = omega arith;
+          upto = omega arith;
+          inside = room;
+          full = λ t. absurd (omega arith);
+          before = g;
+          gathered = subst (λ (n : ℕ). Gathered s p f l n marked marks) e (gathered-beyond (end - first) g all_far);
+        }
 
--- ---- a walk: its start, one container more, and its end
+-- ---- a walk: its start, what is left of a container, one container more, and its end
 
 module _ {s : GridSearch} {p : Place} {f : Filter} {l : Library} where
   module _ {counts : Option (Bor (List ℕ))} where
     pub walked_none : Counted l.keys l.used counts → (marks : List ℕ) → 0 < length marks
-        → Walked s p f l counts (record { row = 0; place = 0; marked = 0 }) marks
-    walked_none c marks h = record { upto = omega arith; few = omega arith; counted = c; inside = h; gathered = gathered_none marks }
+        → Walked s p f l counts (record { row = 0; end = 0; place = 0; marked = 0 }) marks
+    walked_none c marks h = record {
+      upto = omega arith;
+      end-upto = omega arith;
+      near = λ i a b. absurd (omega arith);
+      few = omega arith;
+      counted = c;
+      inside = h;
+      gathered = gathered_none marks;
+    }
 
     module _ {r : Reached} {marks : List ℕ} (w : Walked s p f l counts r marks) where
-      module _ (k : l.used ≤ length l.keys) (h : r.row < l.used) {end : ℕ} (is-end : end ≡ end_from l.keys l.used r.row) {after : List ℕ} where
-        pub walked_next : {n : ℕ} → Marks s p f l r.row end r.marked after (Some n) → Walked s p f l counts (record { row = end; place = r.place + 1; marked = n }) after
-        walked_next m = record {
-          upto = omega (arith, end_upto l.keys l.used r.row k h);
-          few = omega (arith, w.few, end_past l.keys l.used r.row k h);
-          counted = counted_next l.keys l.used r.row k h counts r.place w.counted is-end;
-          inside = m.0;
-          gathered = m.1;
+      module _ {after : List ℕ} {m : Marked} where
+        -- the rest of a near container
+        pub walked_rest : Marks s p f l r.row r.end r.marked after m → Walked s p f l counts (record { row = m.row; end = r.end; place = r.place; marked = m.marked }) after
+        walked_rest k = record {
+          upto = k.upto;
+          end-upto = w.end-upto;
+          near = λ i a b. w.near i (omega (arith, k.from)) b;
+          few = w.few;
+          counted = w.counted;
+          inside = k.inside;
+          gathered = k.gathered;
         }
 
-        pub walked_stop : Marks s p f l r.row end r.marked after None → Walked s p f l counts r after
-        walked_stop m = record { upto = w.upto; few = w.few; counted = w.counted; inside = m.1; gathered = m.2 }
+        -- a container, which is near where it is left before its end
+        module _ (k : l.used ≤ length l.keys) (start : r.row ≡ r.end) (h : r.row < l.used) {end : ℕ} (is-end : end ≡ end_from l.keys l.used r.row) where
+          pub walked_next : Marks s p f l r.row end r.marked after m → (m.row < end → AllNear s p l.keys r.row end)
+              → Walked s p f l counts (record { row = m.row; end = end; place = r.place + 1; marked = m.marked }) after
+          walked_next q near = record {
+            upto = q.upto;
+            end-upto = omega (arith, end_upto l.keys l.used r.row k h);
+            near = λ i a b. near (omega arith) i (omega (arith, q.from)) b;
+            few = omega (arith, w.few, end_past l.keys l.used r.row k h);
+            counted = counted_next l.keys l.used r.row k h counts r.place (rw start w.counted) is-end;
+            inside = q.inside;
+            gathered = q.gathered;
+          }
 
       pub walked_copied : (more : List ℕ) → r.marked < length more → Walked s p f l counts r (take r.marked marks ++ drop r.marked more)
       walked_copied more h = record {
         upto = w.upto;
+        end-upto = w.end-upto;
+        near = w.near;
         few = w.few;
         counted = w.counted;
         inside = rw (length-append (take r.marked marks), length-drop r.marked more, length-take-le r.marked marks (omega (arith, w.inside))) (omega arith);
@@ -206,14 +248,14 @@ module _ {s : GridSearch} {p : Place} {f : Filter} {l : Library} where
       pub walked_indices : l.used ≤ length l.ids → Indices (length l.ids) (length (take r.marked marks)) (take r.marked marks)
       walked_indices h j k =
           let n : j < r.marked = omega (arith, length-take-le r.marked marks (omega (arith, w.inside))) in
-          rw (get_or-take r.marked marks j 0 n) (omega (arith, w.gathered.below j n, w.upto))
+          rw (get_or-take r.marked marks j 0 n) (omega (arith, w.gathered.below j n, w.upto, w.end-upto))
 
       -- where the last row was reached, the ids of the marks are those of the listing
       pub walked_all : {list after : List ℕ} {o : Result ℕ Refusal} → l.used ≤ r.row
           → Out (distinct (map (mark_id l.ids) (take r.marked marks))) list o after → Out (ids_of (on s p f) (table l)) list o after
       unfolding table ids_of
       walked_all {list} {after} {o} h out =
-          let e : r.row ≡ l.used = omega (arith, w.upto) in
+          let e : r.row ≡ l.used = omega (arith, w.upto, w.end-upto) in
           let g : Gathered s p f l l.used r.marked marks = subst (λ (k : ℕ). Gathered s p f l k r.marked marks) e w.gathered in
           subst (λ (found : List ℕ). Out found list o after) (ap distinct g.ids-are) out
 

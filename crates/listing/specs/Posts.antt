@@ -16,6 +16,7 @@ use Rattle.sorting.specs.Posts.{mark_id, Indices}
 use Rattle.listing.specs.declared.Place.{Place}
 use Rattle.listing.specs.declared.Filter.{Filter}
 use Rattle.listing.specs.declared.walk.Reached.{Reached}
+use Rattle.listing.specs.declared.walk.Marked.{Marked}
 use Rattle.listing.specs.Place.{unknown, asked_of, asked, wrong_length, unfit, unfit_filter, container_near, is_on}
 use Rattle.listing.specs.Listing.{listed}
 use Rattle.basics.specs.Filled.{fill}
@@ -58,17 +59,24 @@ pub record Gathered (s : GridSearch) (p : Place) (f : Filter) (l : Library) (i n
   pub below : Indices i n marks
   pub ids-are : map (mark_id l.ids) (take n marks) ≡ map id_in (keep (is_on s (asked s.ndim p) f) (rows_of l i))
 
--- The rows of a container are marked behind the first `marked`, and a place is left for one more. Or there is none, and the first
--- `marked` are as they were.
-abbrev pub Marks : GridSearch → Place → Filter → Library → ℕ → ℕ → ℕ → List ℕ → Option ℕ → Type 0
-Marks s p f l first end marked marks (Some n) = (n < length marks) × Gathered s p f l end n marks
-Marks s p f l first end marked marks None = (length marks ≤ end) × (marked < length marks) × Gathered s p f l first marked marks
+-- The rows of a container are marked behind the first `marked`, which stay: all of them, or up to one behind which no place
+-- would be left for one more.
+pub record Marks (s : GridSearch) (p : Place) (f : Filter) (l : Library) (first end marked : ℕ) (marks : List ℕ) (r : Marked) : Type 0 where
+  pub from : first ≤ r.row
+  pub upto : r.row ≤ end
+  pub inside : r.marked < length marks
+  pub full : r.row < end → length marks ≡ r.marked + 1
+  pub before : Gathered s p f l first marked marks
+  pub gathered : Gathered s p f l r.row r.marked marks
 
--- a walk came to the first row of a container, and has marked the rows before it that count; there is a place for one more
+-- A walk came to a row, and has marked the rows before it that count; there is a place for one more. From that row up to `end`
+-- the rows are of a near container that was begun, and `place` containers stand before `end`.
 pub record Walked (s : GridSearch) (p : Place) (f : Filter) (l : Library) (counts : Option (Bor (List ℕ))) (r : Reached) (marks : List ℕ) : Type 0 where
-  pub upto : r.row ≤ l.used
-  pub few : r.place ≤ r.row
-  pub counted : CountedFrom l.keys l.used counts r.place r.row
+  pub upto : r.row ≤ r.end
+  pub end-upto : r.end ≤ l.used
+  pub near : AllNear s p l.keys r.row r.end
+  pub few : r.place ≤ r.end
+  pub counted : CountedFrom l.keys l.used counts r.place r.end
   pub inside : r.marked < length marks
   pub gathered : Gathered s p f l r.row r.marked marks
 

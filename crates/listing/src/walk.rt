@@ -18,12 +18,20 @@ use grid::ContainerKey;
 use grid_search::GridSearch;
 use table::Library;
 
-// How far a walk over the rows came: the first row of the container that it looks at next, how many containers stand before
-// that row, and how many of the rows before it count.
+// How far a walk over the rows came: the row that it looks at next, where the near container ends that it is in, which is that
+// row where a container starts there, how many containers stand before that end, and how many of the rows before the row count.
 #[derive(Clone, Copy)]
 pub(crate) struct Reached {
     pub(crate) row: usize,
+    pub(crate) end: usize,
     pub(crate) place: usize,
+    pub(crate) marked: usize,
+}
+
+// How far the rows of a container were looked at: the row that comes next, and how many are marked before it.
+#[derive(Clone, Copy)]
+pub(crate) struct Marked {
+    pub(crate) row: usize,
     pub(crate) marked: usize,
 }
 
@@ -72,11 +80,12 @@ impl Walk<'_> {
         )
     }
 
-    // Puts the rows of a near container that count behind the marked ones: answers how many are marked then, or nothing where
-    // no place would be left for one more. Each row is written there, and stays where it counts, so that no branch depends on
-    // that.
+    // Puts the rows of a near container that count behind the marked ones: up to the container's end, or to a row that counts
+    // when a single place is left. Each row is written there, and stays where it counts, so that no branch depends on that. It
+    // is called at two places, and merged into both, so that the walk stays in registers.
     // Kept: no ghost field of `Walk`: one has to have one proof at most, and `MadeFor` is an `or` where the place is a plane.
-    fn mark_rows(self, first: usize, end: usize, marked: usize, marks: &mut [u16]) -> Option<usize>
+    #[inline(always)]
+    fn mark_rows(self, first: usize, end: usize, marked: usize, marks: &mut [u16]) -> Marked
         requires made { MadeFor self.sheet self.ready }
         requires in_use { (first ≤ end) × (end ≤ self.library.used) }
         requires near { AllNear self.sheet self.ready.place self.library.keys.now first end }
@@ -88,60 +97,67 @@ impl Walk<'_> {
         for row in first..end {
             let counts = self.row_counts(row);
             marks[n] = row as u16;
-            n += counts as usize;
-            if n == marks.len() {
-                return None;
+            let more = n + counts as usize;
+            if more == marks.len() {
+                return Marked { row, marked: n };
             }
+            n = more;
         }
-        Some(n)
+        Marked {
+            row: end,
+            marked: n,
+        }
     }
 
     // The same for a container that may be far: then none of its rows counts, and it is passed at once.
     // Kept: no ghost field of `Walk`: one has to have one proof at most, and `MadeFor` is an `or` where the place is a plane.
-    fn mark_container(
-        self,
-        first: usize,
-        end: usize,
-        marked: usize,
-        marks: &mut [u16],
-    ) -> Option<usize>
+    fn mark_container(self, first: usize, end: usize, marked: usize, marks: &mut [u16]) -> Marked
         requires made { MadeFor self.sheet self.ready }
         requires in_use { first < self.library.used }
         requires end { end ≡ end_from self.library.keys.now self.library.used first }
         requires gathered { Gathered self.sheet self.ready.place self.filter (lent self.library) first marked marks.old }
         requires room { marked < length marks.old }
-        ensures { Marks self.entry.sheet self.entry.ready.place self.entry.filter (lent self.entry.library) first end marked marks.new result }
+        ensures marks { Marks self.entry.sheet self.entry.ready.place self.entry.filter (lent self.entry.library) first end marked marks.new result }
+        ensures near { result.row < end → AllNear self.entry.sheet self.entry.ready.place self.entry.library.keys.now first end }
     {
         let key = ContainerKey(self.library.keys[first]);
         if near::container_near(self.sheet, self.ready, key) {
             self.mark_rows(first, end, marked, marks)
         } else {
-            Some(marked)
+            Marked { row: end, marked }
         }
     }
 
-    // Goes on over the containers, and puts their rows that count behind the marked ones: up to the last row, or to a container
-    // with which no place would be left for one more.
+    // Goes on over what is left of the container that was begun and over those behind it, and puts their rows that count behind
+    // the marked ones: up to the last row, or to one that counts when a single place is left.
     // Kept: no ghost field of `Walk`: one has to have one proof at most, and `MadeFor` is an `or` where the place is a plane.
     fn gather(&self, from: Reached, marks: &mut [u16]) -> Reached
         requires made { MadeFor self.now.sheet self.now.ready }
         requires walked_from { Walked self.now.sheet self.now.ready.place self.now.filter (lent self.now.library) self.now.counts from marks.old }
         ensures walked { Walked self.now.sheet self.now.ready.place self.now.filter (lent self.now.library) self.now.counts result marks.new }
-        ensures full { result.row < self.now.library.used → length marks.new ≤ self.now.library.used }
+        ensures full { result.row < self.now.library.used → length marks.new ≡ result.marked + 1 }
     {
         // a copy, which the compiler may keep in registers while marks are written
         let walk = *self;
-        let mut to = from;
+        let rest = walk.mark_rows(from.row, from.end, from.marked, marks);
+        let mut to = Reached {
+            row: rest.row,
+            end: from.end,
+            place: from.place,
+            marked: rest.marked,
+        };
         // Kept: where no room is left the walk stops, and another goes on from `Reached`: an iterator would hide where it stands.
         while to.row < walk.library.used {
-            let end = walk.container_end(to.place, to.row);
-            let Some(marked) = walk.mark_container(to.row, end, to.marked, marks) else {
+            if to.row < to.end {
                 return to;
-            };
+            }
+            let end = walk.container_end(to.place, to.row);
+            let next = walk.mark_container(to.row, end, to.marked, marks);
             to = Reached {
-                row: end,
+                row: next.row,
+                end,
                 place: to.place + 1,
-                marked,
+                marked: next.marked,
             };
         }
         to
@@ -172,6 +188,7 @@ impl Walk<'_> {
     {
         let start = Reached {
             row: 0,
+            end: 0,
             place: 0,
             marked: 0,
         };

@@ -8,7 +8,7 @@ pub returns : goal.returns
 returns c =
     let few = c.args.self.now.known.small in
     walked_all c.gather-to.ensures.walked (by_test (ltb c.gather-to.result.row c.args.self.now.library.used)
-    (λ t. let full = c.gather-to.ensures.full (ltb-true _ _ t) in absurd (omega (arith, c.gather-to.auto.marks)))
+    (λ t. let left = ltb-true _ _ t in let full = c.gather-to.ensures.full left in absurd (omega (arith, c.gather-to.ensures.walked.gathered.upto, c.gather-to.auto.marks)))
     (λ t. ltb-false _ _ t)) c.list_marked.ensures
 
 pub gather-to-requires-clause-walked_from : goal.gather-to-requires-clause-walked_from

@@ -15,6 +15,10 @@ pub mark_rows-requires-clause-near : goal.mark_rows-requires-clause-near
 mark_rows-requires-clause-near c =
     all_near _ _ c.args.self.filter (lent c.args.self.library) c.args.self.known.checked.room.0 c.requires.in_use c.requires.end (sym c.if-container_near.true ∙ c.container_near.ensures)
 
-pub returns-else-container_near : goal.returns-else-container_near
-returns-else-container_near c =
+pub returns-else-container_near-clause-marks : goal.returns-else-container_near-clause-marks
+returns-else-container_near-clause-marks c =
     far_passed _ _ _ _ c.args.self.known.checked.room.0 c.requires.in_use c.requires.end (sym c.if-container_near.false ∙ c.container_near.ensures) c.requires.room c.requires.gathered
+
+pub returns-then-container_near-clause-near : goal.returns-then-container_near-clause-near
+returns-then-container_near-clause-near c = λ h.
+    all_near _ _ c.args.self.filter (lent c.args.self.library) c.args.self.known.checked.room.0 c.requires.in_use c.requires.end (sym c.if-container_near.true ∙ c.container_near.ensures)
