@@ -62,5 +62,6 @@ pub fn strike(sheet: GridSearch, library: &mut LibraryMut, id: ItemId) -> Result
         return Err(Refusal::NoRow);
     };
     remove(library, id.0, first);
-    Ok(used - library.used)
+    let went = used - library.used;
+    Ok(went)
 }

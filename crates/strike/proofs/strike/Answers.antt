@@ -34,8 +34,8 @@ pub remove-requires : goal.remove-requires
 remove-requires c =
     subst (Strikes c.args.id.0 c.in-Some.first) c.as_library-before.ensures (strikes c.args.sheet _ c.args.id.0 (sym c.in_ok-library_fault.ensures) c.in-Some.ensures.0)
 
-pub overflow_sub-result : goal.overflow_sub-result
-overflow_sub-result c =
+pub overflow_sub-went : goal.overflow_sub-went
+overflow_sub-went c =
     let P = λ (m : Library). Leaves (without c.args.id.0) m (lent_mut c.remove.new.library) in
     left_most c.args.sheet _ c.args.id.0 (sym c.in_ok-library_fault.ensures) c.in-Some.ensures.0 (subst P (sym c.as_library-before.ensures) c.remove.ensures.leaves)
 
