@@ -24,7 +24,7 @@ pub judged : (s : GridSearch) → sheet_ok s ≡ true → (r : Result ℕ Refusa
 judged s good r l text p e = go p.file p.is
   where
     go : (file : Option (List ℕ)) → MarksIn 32 s empty_library file r l → Judged (success s) text
-    go none f = record { marks = none; is = e ∙ unread s l r f }
+    go none f = record { marks = none; is = e ∙ unread s l r f.answers }
     go (some bytes) g = record { marks = some bytes; is = e ∙ same_text s good bytes l r g }
 
 pub good-sheet : (r : Result GridSearch Refusal) → SheetRead r → GoodSheet r

@@ -1,2 +1,3 @@
 -- Laws of what is read of files.
 pub mod Parts
+pub mod Room

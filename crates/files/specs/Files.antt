@@ -4,6 +4,7 @@
 use Rattle.std.specs.Prelude.{ℕ, ◌*◌, ◌/◌, Bool, false, cond, List, ltb, eqb, length, Result, Ok, Err}
 use Rattle.std.proofs.Math.Option.{Option, none, some}
 use Rattle.basics.specs.Refusals.{Answer, refused, success}
+use Rattle.basics.specs.declared.Refusal.{Refusal}
 use Rattle.files.specs.declared.ReadError.{ReadError}
 use Rattle.files.specs.declared.InputError.{InputError}
 use Rattle.files.specs.declared.InputError.TheVariants.{Longer, Unreadable}
@@ -29,9 +30,11 @@ content bytes after = cond (all_came after) (some bytes) none
 unfoldable pub part_length : ℕ → ℕ
 part_length width = 65536 / width * width
 
--- what comes after a part of the marks that was taken: a part of fewer bytes than were asked for is the last
-unfoldable pub part_of : ℕ → ℕ → Part
-part_of came asked = cond (ltb came asked) Last More
+-- what comes after a part of the marks that gave this answer: a refusal is handed on, and a part of fewer bytes than were asked for is
+-- the last
+unfoldable pub part_of : ℕ → ℕ → Result ℕ Refusal → Result Part Refusal
+part_of came asked (Ok rows) = Ok (cond (ltb came asked) Last More)
+part_of came asked (Err e) = Err e
 
 -- the answer to a file whose marks were all taken: they have to be all of the file
 unfoldable pub marks_answer : Result ℕ ReadError → ℕ → Answer ℕ

@@ -1,6 +1,6 @@
 // Files and standard input that a program reads, and text that it writes. What a file holds is decided by what the calls on it answered, each
-// decision in a function of its own with an exact contract; and each is asked whatever the call before it answered: where a
-// file cannot be opened, reading it fails too, and that is handed over.
+// decision in a function of its own with an exact contract. Nothing is asked of a file that cannot be opened: that it is missing is handed
+// over in place of what reading on answers.
 //
 // `after` is what reading on after the bytes that came answered: how many bytes follow, 0 at the end, or why that is not known.
 #![tactic(auto)]
@@ -23,7 +23,7 @@ use std::io::{ErrorKind, Print, Read};
 use std::rt::Files;
 use table::LibraryMut;
 
-// What comes after a part of the marks that was taken: more of them, or the end of the file.
+// What comes after a part of the marks that were all taken: more of them, or the end of the file.
 #[derive(Clone, Copy, PartialEq, Eq)]
 pub enum Part {
     More,
@@ -72,12 +72,14 @@ pub fn part_length(width: usize) -> usize
     if width == 0 { 0 } else { 65536 / width * width }
 }
 
-// What comes after a part of the marks: `came` bytes, of `asked` that were asked for.
+// What comes after a part of the marks that was inserted with this answer: `came` bytes, of `asked` that were asked for. A refusal is
+// handed on.
 #[tactic(auto, unfolding(crate::specs::Files::part_of))]
-pub fn part_of(came: usize, asked: usize) -> Part
-    ensures { result ≡ part_of came asked }
+pub fn part_of(came: usize, asked: usize, answer: Result<usize, Refusal>) -> Result<Part, Refusal>
+    ensures { result ≡ part_of came asked answer }
 {
-    if came < asked { Part::Last } else { Part::More }
+    answer?;
+    Ok(if came < asked { Part::Last } else { Part::More })
 }
 
 // The answer to a file whose marks were all taken and left this number of rows in use: 13 where they are not all of the file.
@@ -203,12 +205,12 @@ fn insert_part<R: Read>(
     let mut bytes = [0u8; 65536];
     let asked = part_length(width);
     let n = read_full(reader, &mut bytes[..asked]);
-    loading::insert_records(sheet, library, &bytes[..n], width)?;
-    Ok(part_of(n, asked))
+    let answer = loading::insert_records(sheet, library, &bytes[..n], width);
+    part_of(n, asked, answer)
 }
 
-// Inserts the marks of an open file part by part, from a library with no row in use. A proved loop has to end, and nothing says that a
-// file does: so the loop has a number of turns that no file uses up.
+// Inserts the marks of an open file part by part. Where it cannot be read to its end, the rows in use are as many as before. A proved
+// loop has to end, and nothing says that a file does: so the loop has a number of turns that no file uses up.
 // Kept: width, sheet and library are of three crates; a struct of them would stand in each contract as its three fields.
 fn insert_parts<R: Read>(
     reader: &mut R,
@@ -220,18 +222,24 @@ fn insert_parts<R: Read>(
     ensures read { MarksRead width sheet (lent_mut library.old) result (lent_mut library.new) }
     ensures same_lists { SameLists library.old library.new }
 {
+    let used = library.used;
     for _ in 0..u64::MAX {
         let part = insert_part(reader, width, sheet, library)?;
         if part == Part::Last {
             let after = read_on(reader);
-            return marks_answer(after, library.used);
+            let answer = marks_answer(after, library.used);
+            if answer.is_err() {
+                library.used = used;
+            }
+            return answer;
         }
     }
+    library.used = used;
     Err(Refusal::Damaged)
 }
 
 // Inserts the marks of the file of this name, whose records have this width, into a library. 13 where no record of that width
-// fits into a part.
+// fits into a part. Where the file cannot be read to its end, the rows in use are as many as before.
 // Kept: width, sheet and library are of three crates; a struct of them would stand in each contract as its three fields.
 pub fn insert_file(
     rt: &impl Files,
