@@ -27,7 +27,7 @@ use Rattle.listing.specs.declared.walk.Marked.{Marked}
 use Rattle.listing.specs.Place.{Asked, asked, is_on, container_near, point_near, passes}
 use Rattle.listing.specs.Listing.{ids_of}
 use Rattle.basics.specs.Filled.{fill}
-use Rattle.listing.specs.Posts.{end_from, Counted, AllNear, Gathered, Marks, Walked, Out}
+use Rattle.listing.specs.Posts.{end_from, Counted, Gathered, Marks, Walked, Out}
 use Rattle.listing.proofs.Containers.{end_past, end_upto, end_alike, counted_next}
 
 -- ---- whether a row counts, by its container and by itself
@@ -167,30 +167,7 @@ module _ {s : GridSearch} {p : Place} {f : Filter} {l : Library} where
       gathered = subst (λ (k : ℕ). Gathered s p f l k n marks) e w.here;
     }
 
--- ---- a container: near, with all its rows, or far, and then passed
-
-module _ (s : GridSearch) (p : Place) (f : Filter) (l : Library) where
-  module _ (k : l.used ≤ length l.keys) {first : ℕ} (h : first < l.used) {end : ℕ} (is-end : end ≡ end_from l.keys l.used first) where
-    pub all_near : true ≡ container_near s (asked s.ndim p) (get_or l.keys first 0) → AllNear s p l.keys first end
-    all_near near i a b = ap (container_near s (asked s.ndim p)) (end_alike l.keys l.used first k h i a (omega arith)) ∙ sym near
-
-    pub far_passed : {marked : ℕ} {marks : List ℕ} → false ≡ container_near s (asked s.ndim p) (get_or l.keys first 0) → marked < length marks
-        → Gathered s p f l first marked marks → Marks s p f l first end marked marks (record { row = end; marked = marked })
-    far_passed {marked} {marks} far room g =
-        let past : first < end = omega (arith, end_past l.keys l.used first k h) in
-        let e : first + (end - first) ≡ end = omega arith in
-        let all_far : (j : ℕ) → first ≤ j → j < first + (end - first) → on s p f (row_at l j) ≡ false =
-        λ j a b. row_far s (asked s.ndim p) f (row_at l j) (ap (container_near s (asked s.ndim p)) (end_alike l.keys l.used first k h j a (omega arith)) ∙ sym far) in
-        record {
-          from = omega arith;
-          upto = omega arith;
-          inside = room;
-          full = λ t. absurd (omega arith);
-          before = g;
-          gathered = subst (λ (n : ℕ). Gathered s p f l n marked marks) e (gathered-beyond (end - first) g all_far);
-        }
-
--- ---- a walk: its start, what is left of a container, one container more, and its end
+-- ---- a walk: its start, a container that starts, the rows of one, and its end
 
 module _ {s : GridSearch} {p : Place} {f : Filter} {l : Library} where
   module _ {counts : Option (Bor (List ℕ))} where
@@ -207,32 +184,49 @@ module _ {s : GridSearch} {p : Place} {f : Filter} {l : Library} where
     }
 
     module _ {r : Reached} {marks : List ℕ} (w : Walked s p f l counts r marks) where
-      module _ {after : List ℕ} {m : Marked} where
-        -- the rest of a near container
-        pub walked_rest : Marks s p f l r.row r.end r.marked after m → Walked s p f l counts (record { row = m.row; end = r.end; place = r.place; marked = m.marked }) after
-        walked_rest k = record {
-          upto = k.upto;
-          end-upto = w.end-upto;
-          near = λ i a b. w.near i (omega (arith, k.from)) b;
-          few = w.few;
-          counted = w.counted;
-          inside = k.inside;
-          gathered = k.gathered;
+      -- the rows of a near container
+      pub walked_rows : {after : List ℕ} {m : Marked} → Marks s p f l r.row r.end r.marked after m → Walked s p f l counts (record { row = m.row; end = r.end; place = r.place; marked = m.marked }) after
+      walked_rows k = record {
+        upto = k.upto;
+        end-upto = w.end-upto;
+        near = λ i a b. w.near i (omega (arith, k.from)) b;
+        few = w.few;
+        counted = w.counted;
+        inside = k.inside;
+        gathered = k.gathered;
+      }
+
+      -- a container that starts: near, with all its rows, or far, and then passed
+      module _ (k : l.used ≤ length l.keys) (start : r.row ≡ r.end) (h : r.row < l.used) {end : ℕ} (is-end : end ≡ end_from l.keys l.used r.row) where
+        alike : (i : ℕ) → r.row ≤ i → i < end → container_near s (asked s.ndim p) (get_or l.keys i 0) ≡ container_near s (asked s.ndim p) (get_or l.keys r.row 0)
+        alike i a b = ap (container_near s (asked s.ndim p)) (end_alike l.keys l.used r.row k h i a (omega arith))
+
+        pub walked_near : true ≡ container_near s (asked s.ndim p) (get_or l.keys r.row 0) → Walked s p f l counts (record { row = r.row; end = end; place = r.place + 1; marked = r.marked }) marks
+        walked_near near = record {
+          upto = omega (arith, end_past l.keys l.used r.row k h);
+          end-upto = omega (arith, end_upto l.keys l.used r.row k h);
+          near = λ i a b. alike i a b ∙ sym near;
+          few = omega (arith, w.few, end_past l.keys l.used r.row k h);
+          counted = counted_next l.keys l.used r.row k h counts r.place (rw start w.counted) is-end;
+          inside = w.inside;
+          gathered = w.gathered;
         }
 
-        -- a container, which is near where it is left before its end
-        module _ (k : l.used ≤ length l.keys) (start : r.row ≡ r.end) (h : r.row < l.used) {end : ℕ} (is-end : end ≡ end_from l.keys l.used r.row) where
-          pub walked_next : Marks s p f l r.row end r.marked after m → (m.row < end → AllNear s p l.keys r.row end)
-              → Walked s p f l counts (record { row = m.row; end = end; place = r.place + 1; marked = m.marked }) after
-          walked_next q near = record {
-            upto = q.upto;
-            end-upto = omega (arith, end_upto l.keys l.used r.row k h);
-            near = λ i a b. near (omega arith) i (omega (arith, q.from)) b;
-            few = omega (arith, w.few, end_past l.keys l.used r.row k h);
-            counted = counted_next l.keys l.used r.row k h counts r.place (rw start w.counted) is-end;
-            inside = q.inside;
-            gathered = q.gathered;
-          }
+        pub walked_far : false ≡ container_near s (asked s.ndim p) (get_or l.keys r.row 0) → Walked s p f l counts (record { row = end; end = end; place = r.place + 1; marked = r.marked }) marks
+        walked_far far =
+            let past : r.row < end = omega (arith, end_past l.keys l.used r.row k h) in
+            let e : r.row + (end - r.row) ≡ end = omega arith in
+            let all_far : (j : ℕ) → r.row ≤ j → j < r.row + (end - r.row) → on s p f (row_at l j) ≡ false =
+            λ j a b. row_far s (asked s.ndim p) f (row_at l j) (alike j a (omega arith) ∙ sym far) in
+            record {
+              upto = omega arith;
+              end-upto = omega (arith, end_upto l.keys l.used r.row k h);
+              near = λ i a b. absurd (omega arith);
+              few = omega (arith, w.few);
+              counted = counted_next l.keys l.used r.row k h counts r.place (rw start w.counted) is-end;
+              inside = w.inside;
+              gathered = subst (λ (n : ℕ). Gathered s p f l n r.marked marks) e (gathered-beyond (end - r.row) w.gathered all_far);
+            }
 
       pub walked_copied : (more : List ℕ) → r.marked < length more → Walked s p f l counts r (take r.marked marks ++ drop r.marked more)
       walked_copied more h = record {

@@ -1,6 +1,6 @@
 // The walk over the rows, from container to container: the rows that count are gathered as indices, one is selected for each
 // id, and the ids are written. Indices stand in 2 KiB of the stack; only where more than 1,024 rows count, in 128 KiB.
-ghost use Rattle.std.specs.Prelude.{◌+◌, ◌≤◌, ◌<◌, ◌≡◌, true, map, length, get_or};
+ghost use Rattle.std.specs.Prelude.{ℕ, ◌+◌, ◌≤◌, ◌<◌, ◌≡◌, List, true, map, length, get_or};
 ghost use Rattle.basics.specs.Lists.{over};
 ghost use Rattle.table.specs.Library.{row_at, table};
 ghost use Rattle.table.specs.Lent.{lent};
@@ -18,8 +18,8 @@ use grid::ContainerKey;
 use grid_search::GridSearch;
 use table::Library;
 
-// How far a walk over the rows came: the row that it looks at next, where the near container ends that it is in, which is that
-// row where a container starts there, how many containers stand before that end, and how many of the rows before the row count.
+// How far a walk over the rows came: the row that it looks at next, where the near container ends that was begun (that row,
+// where a container starts there), how many containers stand before that end, and how many of the rows before the row count.
 #[derive(Clone, Copy)]
 pub(crate) struct Reached {
     pub(crate) row: usize,
@@ -81,10 +81,8 @@ impl Walk<'_> {
     }
 
     // Puts the rows of a near container that count behind the marked ones: up to the container's end, or to a row that counts
-    // when a single place is left. Each row is written there, and stays where it counts, so that no branch depends on that. It
-    // is called at two places, and merged into both, so that the walk stays in registers.
+    // when a single place is left. Each row is written there, and stays where it counts, so that no branch depends on that.
     // Kept: no ghost field of `Walk`: one has to have one proof at most, and `MadeFor` is an `or` where the place is a plane.
-    #[inline(always)]
     fn mark_rows(self, first: usize, end: usize, marked: usize, marks: &mut [u16]) -> Marked
         requires made { MadeFor self.sheet self.ready }
         requires in_use { (first ≤ end) × (end ≤ self.library.used) }
@@ -109,22 +107,39 @@ impl Walk<'_> {
         }
     }
 
-    // The same for a container that may be far: then none of its rows counts, and it is passed at once.
+    // The rows that are looked at next: what is left of the near container that was begun, or the container that starts there.
+    // Where that is far none of its rows counts, and it is passed at once.
     // Kept: no ghost field of `Walk`: one has to have one proof at most, and `MadeFor` is an `or` where the place is a plane.
-    fn mark_container(self, first: usize, end: usize, marked: usize, marks: &mut [u16]) -> Marked
+    fn next_rows(self, from: Reached) -> Reached
         requires made { MadeFor self.sheet self.ready }
-        requires in_use { first < self.library.used }
-        requires end { end ≡ end_from self.library.keys.now self.library.used first }
-        requires gathered { Gathered self.sheet self.ready.place self.filter (lent self.library) first marked marks.old }
-        requires room { marked < length marks.old }
-        ensures marks { Marks self.entry.sheet self.entry.ready.place self.entry.filter (lent self.entry.library) first end marked marks.new result }
-        ensures near { result.row < end → AllNear self.entry.sheet self.entry.ready.place self.entry.library.keys.now first end }
+        requires in_use { from.row < self.library.used }
+        requires walked_from { (marks : List ℕ) × Walked self.sheet self.ready.place self.filter (lent self.library) self.counts from marks }
+        ensures walked { (marks : List ℕ) → Walked self.entry.sheet self.entry.ready.place self.entry.filter (lent self.entry.library) self.entry.counts from marks
+            → Walked self.entry.sheet self.entry.ready.place self.entry.filter (lent self.entry.library) self.entry.counts result marks }
+        ensures further { from.row < result.end }
     {
-        let key = ContainerKey(self.library.keys[first]);
+        if from.row < from.end {
+            return from;
+        }
+        let end = self.container_end(from.place, from.row);
+        let key = ContainerKey(self.library.keys[from.row]);
+        let place = from.place + 1;
+        let marked = from.marked;
         if near::container_near(self.sheet, self.ready, key) {
-            self.mark_rows(first, end, marked, marks)
+            let row = from.row;
+            Reached {
+                row,
+                end,
+                place,
+                marked,
+            }
         } else {
-            Marked { row: end, marked }
+            Reached {
+                row: end,
+                end,
+                place,
+                marked,
+            }
         }
     }
 
@@ -139,26 +154,20 @@ impl Walk<'_> {
     {
         // a copy, which the compiler may keep in registers while marks are written
         let walk = *self;
-        let rest = walk.mark_rows(from.row, from.end, from.marked, marks);
-        let mut to = Reached {
-            row: rest.row,
-            end: from.end,
-            place: from.place,
-            marked: rest.marked,
-        };
+        let mut to = from;
         // Kept: where no room is left the walk stops, and another goes on from `Reached`: an iterator would hide where it stands.
         while to.row < walk.library.used {
+            let next = walk.next_rows(to);
+            let came = walk.mark_rows(next.row, next.end, next.marked, marks);
+            to = Reached {
+                row: came.row,
+                end: next.end,
+                place: next.place,
+                marked: came.marked,
+            };
             if to.row < to.end {
                 return to;
             }
-            let end = walk.container_end(to.place, to.row);
-            let next = walk.mark_container(to.row, end, to.marked, marks);
-            to = Reached {
-                row: next.row,
-                end,
-                place: to.place + 1,
-                marked: next.marked,
-            };
         }
         to
     }
