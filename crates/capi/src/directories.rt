@@ -150,10 +150,11 @@ pub fn gemlab_directory_insert(
         used: *dir_used as usize,
     };
     let answer = directory_insert::insert(sheet, &mut library, &mut directory, ItemId(id), x);
+    let number = tell_count(answer, used);
     if answer.is_ok() {
         *dir_used = directory.used as u64;
     }
-    tell_count(answer, used)
+    number
 }
 
 // Takes every row of an id out of a library as `gemlab_grid_search_strike` does, brings the directory up to date, and writes both

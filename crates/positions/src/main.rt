@@ -7,7 +7,6 @@ mod marks;
 mod printing;
 
 use printing::{Exact, Refused, outcome, tell};
-use std::io;
 
 // The distance of a point from the circle of centre (4, 2) and radius 1.
 fn from_circle(x: f64, y: f64) -> Result<Exact, Refused> {
@@ -17,59 +16,54 @@ fn from_circle(x: f64, y: f64) -> Result<Exact, Refused> {
     Ok(Exact(distance))
 }
 
-fn circles(rt: &impl Print) -> io::Result<()> {
+fn circles(rt: &impl Print) {
     tell(
         rt,
         "circle of centre (4, 2) and radius 1, (5, 2)",
         from_circle(5.0, 2.0),
-    )?;
+    );
     tell(
         rt,
         "circle of centre (4, 2) and radius 1, (4, 2)",
         from_circle(4.0, 2.0),
-    )
+    );
 }
 
 // Module 1 at its edges.
-fn roots(rt: &impl Print) -> io::Result<()> {
-    println!(rt; "root of 2: {}", Exact(floats::sqrt(2.0)))?;
-    println!(rt; "root of 0: {}", Exact(floats::sqrt(0.0)))?;
-    println!(rt; "root of -0: {}", Exact(floats::sqrt(-0.0)))?;
-    println!(rt; "root of -1: {}", Exact(floats::sqrt(-1.0)))?;
-    println!(rt; "root of infinity: {}", Exact(floats::sqrt(f64::INFINITY)))
+fn roots(rt: &impl Print) {
+    let _ = println!(rt; "root of 2: {}", Exact(floats::sqrt(2.0)));
+    let _ = println!(rt; "root of 0: {}", Exact(floats::sqrt(0.0)));
+    let _ = println!(rt; "root of -0: {}", Exact(floats::sqrt(-0.0)));
+    let _ = println!(rt; "root of -1: {}", Exact(floats::sqrt(-1.0)));
+    let _ = println!(rt; "root of infinity: {}", Exact(floats::sqrt(f64::INFINITY)));
 }
 
-fn truncations(rt: &impl Print) -> io::Result<()> {
-    println!(rt; "truncation of 7.9375: {}", floats::truncated(7.9375))?;
-    println!(rt; "truncation of -7.9375: {}", floats::truncated(-7.9375))?;
-    println!(rt;
+fn truncations(rt: &impl Print) {
+    let _ = println!(rt; "truncation of 7.9375: {}", floats::truncated(7.9375));
+    let _ = println!(rt; "truncation of -7.9375: {}", floats::truncated(-7.9375));
+    let _ = println!(rt;
         "truncation of infinity: {}",
         floats::truncated(f64::INFINITY)
-    )?;
-    println!(rt; "truncation of NaN: {}", floats::truncated(f64::NAN))
+    );
+    let _ = println!(rt; "truncation of NaN: {}", floats::truncated(f64::NAN));
 }
 
-fn roundings_up(rt: &impl Print) -> io::Result<()> {
-    println!(rt; "rounding up of 2.5: {}", Exact(floats::ceil(2.5)))?;
-    println!(rt; "rounding up of -2.5: {}", Exact(floats::ceil(-2.5)))?;
-    println!(rt; "rounding up of -0.5: {}", Exact(floats::ceil(-0.5)))?;
-    println!(rt; "rounding up of 3: {}", Exact(floats::ceil(3.0)))
-}
-
-fn positions(rt: &impl Print) -> io::Result<()> {
-    println!(rt; "root of 2.25: {}", Exact(floats::sqrt(2.25)))?;
-    println!(rt; "root of 0.25: {}", Exact(floats::sqrt(0.25)))?;
-    marks::marks(rt)?;
-    marks::sheets(rt)?;
-    marks::lines(rt)?;
-    circles(rt)?;
-    cells::triangles(rt)?;
-    roots(rt)?;
-    truncations(rt)?;
-    roundings_up(rt)
+fn roundings_up(rt: &impl Print) {
+    let _ = println!(rt; "rounding up of 2.5: {}", Exact(floats::ceil(2.5)));
+    let _ = println!(rt; "rounding up of -2.5: {}", Exact(floats::ceil(-2.5)));
+    let _ = println!(rt; "rounding up of -0.5: {}", Exact(floats::ceil(-0.5)));
+    let _ = println!(rt; "rounding up of 3: {}", Exact(floats::ceil(3.0)));
 }
 
 fn main(rt: HostRuntime) {
-    // where a line cannot be written, what stands there tells
-    let _ = positions(&rt);
+    let _ = println!(rt; "root of 2.25: {}", Exact(floats::sqrt(2.25)));
+    let _ = println!(rt; "root of 0.25: {}", Exact(floats::sqrt(0.25)));
+    marks::marks(&rt);
+    marks::sheets(&rt);
+    marks::lines(&rt);
+    circles(&rt);
+    cells::triangles(&rt);
+    roots(&rt);
+    truncations(&rt);
+    roundings_up(&rt);
 }

@@ -1,6 +1,6 @@
 // Sheet S and marks on it.
 use crate::printing::{Numbers, Refused, outcome, tell, tell_made};
-use std::{fmt, io};
+use std::fmt;
 
 const TOLERANCE: f64 = 1.0 / 512.0;
 
@@ -160,18 +160,18 @@ fn insertion<const N: usize>(
     id: u64,
     x: f64,
     y: f64,
-) -> io::Result<()> {
+) {
     let inserted = library.insert(s, id, x, y);
-    tell(rt, tried, inserted.map(|()| library.keys()))
+    tell(rt, tried, inserted.map(|()| library.keys()));
 }
 
 // A mark alone.
-fn mark(rt: &impl Print, tried: &str, s: &Sheet, x: f64, y: f64) -> io::Result<()> {
-    insertion(rt, tried, &mut Library::<8>::new(), s, 1, x, y)
+fn mark(rt: &impl Print, tried: &str, s: &Sheet, x: f64, y: f64) {
+    insertion(rt, tried, &mut Library::<8>::new(), s, 1, x, y);
 }
 
 // Id 7 at (2, 1), also with three free rows, then at (5.5, 2.5).
-fn seven(rt: &impl Print, s: &Sheet) -> io::Result<()> {
+fn seven(rt: &impl Print, s: &Sheet) {
     let mut library = Library::<8>::new();
     insertion(
         rt,
@@ -181,7 +181,7 @@ fn seven(rt: &impl Print, s: &Sheet) -> io::Result<()> {
         7,
         2.0,
         1.0,
-    )?;
+    );
     insertion(
         rt,
         "7 at (2, 1) with 3 free rows",
@@ -190,18 +190,18 @@ fn seven(rt: &impl Print, s: &Sheet) -> io::Result<()> {
         7,
         2.0,
         1.0,
-    )?;
-    tell(rt, "(2, 1)", library.search(s, 2.0, 1.0))?;
-    insertion(rt, "7 at (5.5, 2.5)", &mut library, s, 7, 5.5, 2.5)?;
-    tell(rt, "(2, 1)", library.search(s, 2.0, 1.0))
+    );
+    tell(rt, "(2, 1)", library.search(s, 2.0, 1.0));
+    insertion(rt, "7 at (5.5, 2.5)", &mut library, s, 7, 5.5, 2.5);
+    tell(rt, "(2, 1)", library.search(s, 2.0, 1.0));
 }
 
 // Id 8 alone.
-fn eight(rt: &impl Print, s: &Sheet) -> io::Result<()> {
+fn eight(rt: &impl Print, s: &Sheet) {
     let mut library = Library::<8>::new();
     let tried = "8 alone at (3 - 9/4096, 0.5)";
-    insertion(rt, tried, &mut library, s, 8, BELOW_3, 0.5)?;
-    tell(rt, "(3, 0.5)", library.search(s, 3.0, 0.5))
+    insertion(rt, tried, &mut library, s, 8, BELOW_3, 0.5);
+    tell(rt, "(3, 0.5)", library.search(s, 3.0, 0.5));
 }
 
 fn line<const N: usize>(
@@ -212,49 +212,54 @@ fn line<const N: usize>(
     x0: f64,
     x1: f64,
     y: f64,
-) -> io::Result<()> {
+) {
     let mut list = [0; 8];
-    tell(rt, tried, library.line(s, x0, x1, y, &mut list))
+    tell(rt, tried, library.line(s, x0, x1, y, &mut list));
 }
 
 // Lines whose ends are close, without rows, and with the one row of id 8.
-fn close_ends(rt: &impl Print, s: &Sheet) -> io::Result<()> {
+fn close_ends(rt: &impl Print, s: &Sheet) {
     let mut library = Library::<8>::new();
     let tried = "line from (1, 1) to (1, 1) without rows";
-    line(rt, tried, &library, s, 1.0, 1.0, 1.0)?;
+    line(rt, tried, &library, s, 1.0, 1.0, 1.0);
     let _ = library.insert(s, 8, BELOW_3, 0.5);
     let tried = "line from (1, 1) to (1, 1) with one row";
-    line(rt, tried, &library, s, 1.0, 1.0, 1.0)?;
+    line(rt, tried, &library, s, 1.0, 1.0, 1.0);
     let tried = "line from (1, 0.5) to (1 + 2^-26, 0.5) with one row";
-    line(rt, tried, &library, s, 1.0, 1.0 + 1.0 / 67108864.0, 0.5)?;
+    line(rt, tried, &library, s, 1.0, 1.0 + 1.0 / 67108864.0, 0.5);
     let tried = "line from (1, 0.5) to (1 + 2^-25, 0.5) with one row";
-    line(rt, tried, &library, s, 1.0, 1.0 + 1.0 / 33554432.0, 0.5)
+    line(rt, tried, &library, s, 1.0, 1.0 + 1.0 / 33554432.0, 0.5);
 }
 
-pub fn marks(rt: &impl Print) -> io::Result<()> {
+pub fn marks(rt: &impl Print) {
     let s = match Sheet::new(8, TOLERANCE) {
         Ok(s) => s,
-        Err(refused) => return println!(rt; "S: {refused}"),
+        Err(refused) => {
+            let _ = println!(rt; "S: {refused}");
+            return;
+        }
     };
-    mark(rt, "mark at (0, 0)", &s, 0.0, 0.0)?;
-    mark(rt, "mark at (3.5, 2.5)", &s, 3.5, 2.5)?;
-    mark(rt, "mark at (8, 4)", &s, 8.0, 4.0)?;
+    mark(rt, "mark at (0, 0)", &s, 0.0, 0.0);
+    mark(rt, "mark at (3.5, 2.5)", &s, 3.5, 2.5);
+    mark(rt, "mark at (8, 4)", &s, 8.0, 4.0);
     let above = 8.0 + 1.0 / 562949953421312.0;
-    mark(rt, "mark at (next float above 8, 4)", &s, above, 4.0)?;
-    seven(rt, &s)?;
-    eight(rt, &s)
+    mark(rt, "mark at (next float above 8, 4)", &s, above, 4.0);
+    seven(rt, &s);
+    eight(rt, &s);
 }
 
-pub fn sheets(rt: &impl Print) -> io::Result<()> {
-    tell_made(rt, "S with tolerance 0.5", Sheet::new(8, 0.5))?;
-    tell_made(rt, "S with tolerance 0.4375", Sheet::new(8, 0.4375))?;
-    tell_made(rt, "S with divisions 1", Sheet::new(1, TOLERANCE))?;
-    tell_made(rt, "S with divisions 2", Sheet::new(2, TOLERANCE))
+pub fn sheets(rt: &impl Print) {
+    tell_made(rt, "S with tolerance 0.5", Sheet::new(8, 0.5));
+    tell_made(rt, "S with tolerance 0.4375", Sheet::new(8, 0.4375));
+    tell_made(rt, "S with divisions 1", Sheet::new(1, TOLERANCE));
+    tell_made(rt, "S with divisions 2", Sheet::new(2, TOLERANCE));
 }
 
-pub fn lines(rt: &impl Print) -> io::Result<()> {
+pub fn lines(rt: &impl Print) {
     match Sheet::new(8, TOLERANCE) {
         Ok(s) => close_ends(rt, &s),
-        Err(refused) => println!(rt; "S: {refused}"),
+        Err(refused) => {
+            let _ = println!(rt; "S: {refused}");
+        }
     }
 }

@@ -1,5 +1,5 @@
 // Answers as the lines show them.
-use std::{fmt, io};
+use std::fmt;
 
 // A float to its last bit: the value cut to six decimals, for a reader, and its bits in hexadecimal. A NaN has none of its own.
 #[derive(Clone, Copy)]
@@ -72,23 +72,15 @@ impl fmt::Display for Numbers<'_> {
     }
 }
 
-// A line: what was tried, and what was answered.
-pub fn tell<T: fmt::Display + Drop>(
-    rt: &impl Print,
-    tried: &str,
-    answer: Result<T, Refused>,
-) -> io::Result<()> {
-    match answer {
+// A line: what was tried, and what was answered. Where it cannot be written, the next is tried all the same.
+pub fn tell<T: fmt::Display + Drop>(rt: &impl Print, tried: &str, answer: Result<T, Refused>) {
+    let _ = match answer {
         Ok(value) => println!(rt; "{tried}: {value}"),
         Err(refused) => println!(rt; "{tried}: {refused}"),
-    }
+    };
 }
 
 // The same of a call that makes something: only whether it does is told.
-pub fn tell_made<T: Drop>(
-    rt: &impl Print,
-    tried: &str,
-    made: Result<T, Refused>,
-) -> io::Result<()> {
-    tell(rt, tried, made.map(|_| "accepted"))
+pub fn tell_made<T: Drop>(rt: &impl Print, tried: &str, made: Result<T, Refused>) {
+    tell(rt, tried, made.map(|_| "accepted"));
 }

@@ -1,18 +1,24 @@
 // Cell builds and cell searches.
 use crate::answers::{Answers, Compared, List, outcome};
-use crate::kinds::Kind;
+use crate::kinds::{Kind, UnknownKind};
 
 const ROWS: usize = 512;
 
 // What a result holds before a call that may write it.
 const BEFORE: f64 = -12345.5;
 
-// A mesh and the index of its cells, as the C interface takes them.
+// A mesh, as the C interface takes it.
 #[derive(Drop)]
-pub struct Cells {
+struct Mesh {
     ndim: u64,
     coords: List<f64, 128>,
     corners: List<u32, 256>,
+}
+
+// The mesh that was read last, if there was one, and the index of its cells, as the C interface takes it.
+#[derive(Drop)]
+pub struct Cells {
+    mesh: Option<Mesh>,
     keys: [u64; ROWS],
     cells: [u64; ROWS],
     large: [u64; 64],
@@ -22,15 +28,13 @@ pub struct Cells {
 
 impl Cells {
     pub fn new() -> Cells {
-        Cells::of(0, List::new(), List::new())
+        Cells::of(None)
     }
 
     // A mesh, with no index yet.
-    fn of(ndim: u64, coords: List<f64, 128>, corners: List<u32, 256>) -> Cells {
+    fn of(mesh: Option<Mesh>) -> Cells {
         Cells {
-            ndim,
-            coords,
-            corners,
+            mesh,
             keys: [0; ROWS],
             cells: [0; ROWS],
             large: [0; 64],
@@ -39,28 +43,39 @@ impl Cells {
         }
     }
 
-    // One entry of the file: whether it agrees.
-    pub fn entry(&mut self, kind: Kind, answers: &mut Answers) -> Option<bool> {
-        Some(match kind {
-            Kind::Mesh => {
-                *self = Cells::of(answers.read(), answers.list(), answers.list());
-                true
+    // One entry of the file: whether it agrees. After a mesh, one of a number above the kinds of a mesh's entries is read as a
+    // search; a lower one ends the file, and so does any before the first mesh.
+    pub fn entry(
+        &mut self,
+        kind: Result<Kind, UnknownKind>,
+        answers: &mut Answers,
+    ) -> Option<bool> {
+        match kind {
+            Ok(Kind::Mesh) => {
+                *self = Cells::of(Some(Mesh {
+                    ndim: answers.read(),
+                    coords: answers.list(),
+                    corners: answers.list(),
+                }));
+                Some(true)
             }
-            Kind::CellBuild => self.build(answers),
-            Kind::CellSearch => self.search(answers),
-            _ => return None,
-        })
+            Ok(Kind::CellBuild) => self.build(answers),
+            Ok(Kind::CellSearch | Kind::Striking | Kind::Check) => self.search(answers),
+            Ok(_) | Err(UnknownKind(0)) => None,
+            Err(_) => self.search(answers),
+        }
     }
 
-    fn build(&mut self, answers: &mut Answers) -> bool {
+    fn build(&mut self, answers: &mut Answers) -> Option<bool> {
+        let mesh = self.mesh.as_ref()?;
         let tolerance = answers.setting::<f64>();
         let border = answers.setting::<f64>();
         let cutoff = answers.setting::<f64>();
         let percentage = answers.setting::<f64>();
         let given = outcome(capi::gemlab_grid_cells_new(
-            self.ndim,
-            self.coords.as_slice(),
-            self.corners.as_slice(),
+            mesh.ndim,
+            mesh.coords.as_slice(),
+            mesh.corners.as_slice(),
             tolerance.flag,
             tolerance.value,
             border.flag,
@@ -77,7 +92,7 @@ impl Cells {
         ));
         let stored = answers.outcome();
         if stored.is_err() {
-            return given == stored;
+            return Some(given == stored);
         }
         let rows: u64 = answers.read();
         let many: u64 = answers.read();
@@ -86,10 +101,11 @@ impl Cells {
         let same_keys = answers.same(&self.keys, rows);
         let same_cells = answers.same(&self.cells, rows);
         let same_large = answers.same(&self.large, many);
-        given.is_ok() && same_numbers && same_floats && same_keys && same_cells && same_large
+        Some(given.is_ok() && same_numbers && same_floats && same_keys && same_cells && same_large)
     }
 
-    fn search(&self, answers: &mut Answers) -> bool {
+    fn search(&self, answers: &mut Answers) -> Option<bool> {
+        let mesh = self.mesh.as_ref()?;
         let x: List<f64, 4> = answers.list();
         let x = x.as_slice();
         let mut zeta = [BEFORE; 4];
@@ -99,8 +115,8 @@ impl Cells {
         let given = outcome(capi::gemlab_grid_cells_search(
             &self.numbers,
             &self.floats,
-            self.coords.as_slice(),
-            self.corners.as_slice(),
+            mesh.coords.as_slice(),
+            mesh.corners.as_slice(),
             &self.keys,
             &self.cells,
             &self.large,
@@ -111,11 +127,11 @@ impl Cells {
         ));
         let stored = answers.outcome();
         if stored.is_err() {
-            return given == stored && found == 7;
+            return Some(given == stored && found == 7);
         }
         let count: u64 = answers.read();
         if count == 0 {
-            return given.is_ok() && found == 0 && zeta[0].same(BEFORE);
+            return Some(given.is_ok() && found == 0 && zeta[0].same(BEFORE));
         }
         let size = x.len() as u64 + 1;
         let possible = answers.any(count, |given| {
@@ -123,6 +139,6 @@ impl Cells {
             let same = given.same(&zeta, size);
             next == cell && same
         });
-        given.is_ok() && found == 1 && possible
+        Some(given.is_ok() && found == 1 && possible)
     }
 }

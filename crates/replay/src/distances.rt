@@ -36,11 +36,9 @@ impl TryFrom<u64> for Figure {
     }
 }
 
-// Whether a stored distance is what the call gives.
+// Whether a stored distance is what the call gives. A number that is no figure's is read as a cylinder's.
 pub fn agrees(answers: &mut Answers) -> bool {
-    let Ok(figure) = Figure::try_from(answers.read::<u64>()) else {
-        return false;
-    };
+    let figure = Figure::try_from(answers.read::<u64>()).unwrap_or(Figure::Cylinder);
     let a: List<f64, 4> = answers.list();
     let b: List<f64, 4> = answers.list();
     let c: List<f64, 4> = answers.list();

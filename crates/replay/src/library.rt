@@ -1,7 +1,7 @@
 // Sheets, insertions, strikings, searches, listings and tables, and checks with an entry changed meanwhile.
 use crate::answers::{Answers, List, Stored, outcome, zeros};
 use crate::distances;
-use crate::kinds::Kind;
+use crate::kinds::{Kind, UnknownKind};
 use std::mem;
 
 const ROWS: usize = 512;
@@ -68,18 +68,22 @@ impl Library {
         }
     }
 
-    // One entry of the file: whether it agrees.
-    pub fn entry(&mut self, kind: Kind, answers: &mut Answers) -> Option<bool> {
+    // One entry of the file: whether it agrees. One that is of no kind, or of a mesh's, is read as a distance; 0 ends the file.
+    pub fn entry(
+        &mut self,
+        kind: Result<Kind, UnknownKind>,
+        answers: &mut Answers,
+    ) -> Option<bool> {
         Some(match kind {
-            Kind::Sheet => self.sheet(answers),
-            Kind::Insertion => self.insertion(answers),
-            Kind::Search => self.search(answers),
-            Kind::Listing => self.listing(answers),
-            Kind::Table => self.table(answers),
-            Kind::Distance => distances::agrees(answers),
-            Kind::Striking => self.striking(answers),
-            Kind::Check => self.check(answers),
-            Kind::Mesh | Kind::CellBuild | Kind::CellSearch => return None,
+            Ok(Kind::Sheet) => self.sheet(answers),
+            Ok(Kind::Insertion) => self.insertion(answers),
+            Ok(Kind::Search) => self.search(answers),
+            Ok(Kind::Listing) => self.listing(answers),
+            Ok(Kind::Table) => self.table(answers),
+            Ok(Kind::Striking) => self.striking(answers),
+            Ok(Kind::Check) => self.check(answers),
+            Err(UnknownKind(0)) => return None,
+            _ => distances::agrees(answers),
         })
     }
 

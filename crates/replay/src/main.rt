@@ -10,7 +10,7 @@ mod library;
 
 use answers::Answers;
 use cells::Cells;
-use kinds::{Kind, Tallies};
+use kinds::{Kind, Tallies, UnknownKind};
 use library::Library;
 use std::fmt::InlineText;
 use std::fs::File;
@@ -28,8 +28,8 @@ fn fail(rt: &impl Eprint, path: &str, error: io::Error) {
     let _ = eprintln!(rt; "{path}: {words}");
 }
 
-// Counts the entries of a file, up to a number that is no kind's or a kind of which `entry` makes no call.
-fn go_through<E: FnMut(Kind, &mut Answers) -> Option<bool>>(
+// Goes through the entries of a file, up to one of which `entry` makes no call, and counts those whose number is a kind's.
+fn go_through<E: FnMut(Result<Kind, UnknownKind>, &mut Answers) -> Option<bool>>(
     rt: &(impl Files<File = File> + Eprint),
     path: &str,
     tallies: &mut Tallies,
@@ -43,13 +43,13 @@ fn go_through<E: FnMut(Kind, &mut Answers) -> Option<bool>>(
     };
     // no file has as many
     for _ in 0..u64::MAX {
-        let Ok(kind) = Kind::try_from(answers.read::<u64>()) else {
-            return;
-        };
+        let kind = Kind::try_from(answers.read::<u64>());
         let Some(agrees) = entry(kind, &mut answers) else {
             return;
         };
-        tallies.count(kind, agrees);
+        if let Ok(kind) = kind {
+            tallies.count(kind, agrees);
+        }
     }
 }
 
