@@ -22,8 +22,8 @@ returns-in_err-targets-clause-gives c =
 pub put_all-requires : goal.put_all-requires
 put_all-requires c =
     let P : Library → Type 0 = λ l. Judges c.args.sheet l c.args.id.0 c.args.x.now c.judge_mark.result in
-    let judged = judged_accepts c.args.sheet _ c.args.id.0 c.args.x.now (subst P c.as_library-2.ensures c.judge_mark.ensures) c.in_ok-targets.was in
-    rw c.as_slice.ensures (taken c.args.sheet _ c.args.id.0 c.args.x.now c.new.result c.new.ensures judged)
+    let accepted = judged_accepts c.args.sheet _ c.args.id.0 c.args.x.now (subst P c.as_library-2.ensures c.judge_mark.ensures) c.in_ok-targets.was in
+    rw c.as_slice.ensures (taken c.args.sheet _ c.args.id.0 c.args.x.now c.new.result c.new.ensures accepted)
 
 pub returns-clause-gives : goal.returns-clause-gives
 returns-clause-gives c =
