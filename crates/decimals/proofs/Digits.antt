@@ -4,20 +4,20 @@ use Prim.Native.Nat.{ℕ, suc, ◌+◌, ◌-◌, ◌*◌, ◌^◌, ◌≤◌, �
 use native.Mathlib.Numerals.{add-one}
 use native.Mathlib.Nat.{zero-add, add-zero, add-suc, suc-add, pow-suc, pow-le-pow_right}
 use native.Mathlib.Omega.{arith}
-use mathlib.Core.Path.{◌≡◌, refl, ◌∙◌}
-use mathlib.Core.Bool.{Bool, true, false, cond, ◌&&◌, and-false}
+use mathlib.Core.Path.{◌≡◌, refl, sym, ◌∙◌}
+use mathlib.Core.Bool.{Bool, true, false, cond, ◌&&◌}
 use mathlib.Core.Option.{none, some}
 use mathlib.Core.List.{List, [], ◌∷◌, ◌++◌}
-use lib.Dec.{leb, ltb, eqb}
+use lib.Dec.{leb, eqb}
 use lib.ListN.{length, get_or, drop, drop_of_length-le}
 use lib.Seq.{drop-cons}
-use borrow.Author.Tests.{leb-true, le-leb, lt-leb, le-ltb, lt-ltb, ltb-true, ltb-false, eqb-true}
+use borrow.Author.Tests.{leb-true, le-leb, lt-leb, eqb-true}
 use Rattle.basics.specs.Lists.{all, has}
 use Rattle.basics.proofs.Bools.{by_test, clash, both, and_left, and_right}
 use Rattle.basics.proofs.Walks.{all_stop, all-next, all_end}
 use Rattle.text.specs.Text.{number_from, number_of}
 use Rattle.decimals.specs.Decimals.{is_digit, digits}
-use Rattle.decimals.specs.Posts.{with_digit, digits_in}
+use Rattle.decimals.specs.Posts.{digit_in, digits_in}
 
 -- ---- an answer that is something where a test holds
 
@@ -93,10 +93,6 @@ digits-below k field e =
     let small = rw zero-add at (below-from 0 0 field (omega arith) d.each) in
     omega (arith, small, pow-le-pow_right {n = 10} (omega arith) d.most)
 
--- up to nineteen fit
-pub digits_fit : (k : ℕ) (field : List ℕ) → k ≤ 19 → digits k field ≡ true → number_of field < 2 ^ 64
-digits_fit k field h e = omega (arith, digits-below k field e, pow-le-pow_right {n = 10} (omega arith) {i = k} {j = 19} h)
-
 -- ---- the ways out of reading it
 
 module _ (k : ℕ) (field : List ℕ) where
@@ -108,72 +104,62 @@ module _ (k : ℕ) (field : List ℕ) where
   unfolding digits_in digits
   digits_long h = rw (le-leb 1 (length field) (omega arith), lt-leb (length field) k h)
 
-  digits-other : all is_digit field ≡ false → digits k field ≡ false
-  unfolding digits
+  pub digits-other : all is_digit field ≡ false → digits_in k field ≡ none
+  unfolding digits_in digits
   digits-other e = rw e (by_test (leb 1 (length field)) (λ p. rw p (by_test (leb (length field) k) (λ q. rw q) (λ q. rw q))) (λ p. rw p))
 
   pub digits-all : 1 ≤ length field → length field ≤ k → all is_digit field ≡ true → digits k field ≡ true
   unfolding digits
   digits-all l h e = both (le-leb 1 (length field) l) (both (le-leb (length field) k h) e)
 
-  pub digits-good : digits k field ≡ true → number_of field < 2 ^ 64 → digits_in k field ≡ some (number_of field)
+  pub digits-good : digits k field ≡ true → digits_in k field ≡ some (number_of field)
   unfolding digits_in
-  digits-good e h = rw (e, lt-ltb (number_of field) (2 ^ 64) h)
+  digits-good e = rw e
 
   pub digits-told : {n : ℕ} → some n ≡ digits_in k field → (digits k field ≡ true) × (n ≡ number_of field)
   unfolding digits_in
-  digits-told e = let t = told (digits k field && ltb (number_of field) (2 ^ 64)) (number_of field) e in (and_left (digits k field) _ t.0, t.1)
+  digits-told e = told (digits k field) (number_of field) e
 
-  pub digits_untold : k ≤ 19 → none ≡ digits_in k field → digits k field ≡ false
+  pub digits_untold : none ≡ digits_in k field → digits k field ≡ false
   unfolding digits_in
-  digits_untold h e =
-      by_test (digits k field)
-      (λ d. clash (rw (d, lt-ltb (number_of field) (2 ^ 64) (digits_fit k field h d))) (untold (digits k field && ltb (number_of field) (2 ^ 64)) (number_of field) e))
-      (λ d. d)
+  digits_untold e = untold (digits k field) (number_of field) e
 
 -- ---- the walk: what is known once the first i are digits that stand for n
 
--- more digits stand for no less
-grows : (n : ℕ) (ds : List ℕ) → n ≤ number_from n ds
-unfolding number_from
-grows n [] = omega arith
-grows n (d ∷ ds) = omega (arith, grows (n * 10 + (d - 48)) ds)
+pub digit_small : (b : ℕ) {d : ℕ} → some d ≡ digit_in b → d ≤ 9
+digit_small b e = let t = told (is_digit b) (b - 48) e in omega (arith, digit-high b t.0, t.1)
 
 pub record Walk (field : List ℕ) (n i : ℕ) : Type 0 where
   pub good : all is_digit field ≡ all is_digit (drop i field)
   pub number : number_of field ≡ number_from n (drop i field)
-  pub fits : n < 2 ^ 64
+  pub below : n < 10 ^ i
 
 module _ (field : List ℕ) where
   pub walk_start : Walk field 0 0
   unfolding number_of
-  walk_start = record { good = refl; number = refl; fits = omega arith }
+  walk_start = record { good = refl; number = refl; below = omega arith }
 
   module _ (n i : ℕ) (w : Walk field n i) where
-    -- the next byte is no digit, or the number does not fit
-    pub walk_stop : (k : ℕ) → i < length field → none ≡ with_digit n (get_or field i 0) → none ≡ digits_in k field
-    unfolding digits_in number_from
-    walk_stop k h e =
-        by_test (is_digit (get_or field i 0))
-        (λ d.
-        let m = n * 10 + (get_or field i 0 - 48) in
-        let over : 2 ^ 64 ≤ m = ltb-false m (2 ^ 64) (rw d at (untold (is_digit (get_or field i 0) && ltb m (2 ^ 64)) m e)) in
-        let number : number_of field ≡ number_from m (drop (suc i) field) = w.number ∙ rw (drop-cons field i 0 h) in
-        rw (le-ltb (number_of field) (2 ^ 64) (omega (arith, number, grows m (drop (suc i) field))), and-false (digits k field)))
-        (λ d. rw (digits-other k field (all_stop is_digit field i w.good 0 h d)))
+    -- nineteen digits fit
+    pub walk-room : i < length field → length field ≤ 19 → n < 10 ^ 18
+    walk-room h l = omega (arith, w.below, pow-le-pow_right {n = 10} (omega arith) {i = i} {j = 18} (omega arith))
 
-    pub walk-next : (m : ℕ) → i < length field → some m ≡ with_digit n (get_or field i 0) → Walk field m (i + 1)
+    -- the next byte is no digit
+    pub walk_stop : (k : ℕ) → i < length field → none ≡ digit_in (get_or field i 0) → none ≡ digits_in k field
+    walk_stop k h e = sym (digits-other k field (all_stop is_digit field i w.good 0 h (untold (is_digit (get_or field i 0)) (get_or field i 0 - 48) e)))
+
+    pub walk-next : (d : ℕ) → i < length field → some d ≡ digit_in (get_or field i 0) → Walk field (n * 10 + d) (i + 1)
     unfolding number_from
-    walk-next m h e =
-        let t = told (is_digit (get_or field i 0) && ltb (n * 10 + (get_or field i 0 - 48)) (2 ^ 64)) (n * 10 + (get_or field i 0 - 48)) e in
+    walk-next d h e =
+        let t = told (is_digit (get_or field i 0)) (get_or field i 0 - 48) e in
         record {
-          good = all-next is_digit field i w.good 0 h (and_left (is_digit (get_or field i 0)) _ t.0);
+          good = all-next is_digit field i w.good 0 h t.0;
           number = w.number ∙ rw (drop-cons field i 0 h, add-one, t.1);
-          fits = rw t.1 (ltb-true _ (2 ^ 64) (and_right (is_digit (get_or field i 0)) _ t.0));
+          below = rw (add-one, t.1) (below_ten n (get_or field i 0) i w.below t.0);
         }
 
     pub walk_end : (k : ℕ) → 1 ≤ length field → length field ≤ k → length field ≤ i → some n ≡ digits_in k field
     unfolding number_from
     walk_end k l m h =
         let number : number_of field ≡ n = w.number ∙ rw (drop_of_length-le field {i = i} h) in
-        rw (digits-good k field (digits-all k field l m (all_end is_digit field i w.good h)) (rw number w.fits), number)
+        rw (digits-good k field (digits-all k field l m (all_end is_digit field i w.good h)), number)

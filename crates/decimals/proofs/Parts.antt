@@ -9,7 +9,7 @@ use mathlib.Core.Bool.{Bool, true, false, cond, ◌&&◌, ◌||◌, and-true}
 use mathlib.Core.Option.{none, some}
 use mathlib.Core.List.{List, [], ◌∷◌}
 use mathlib.Core.Logic.{◌⊎◌, inl, inr, ⊎_elim}
-use lib.Dec.{leb, ltb, eqb, lit≤}
+use lib.Dec.{leb, ltb, eqb}
 use lib.Pointwise.{pointwise}
 use Rattle.std.specs.List.{position}
 use Rattle.std.specs.Bool.{then_some}
@@ -38,7 +38,7 @@ rest-whole field at = take_all (length field - at) (drop at field) (omega (arith
 module _ (field : List ℕ) where
   pub decimals_bad : none ≡ digits_in 3 field → none ≡ decimals_in field
   unfolding decimals_in
-  decimals_bad e = rw (digits_untold 3 field (lit≤ tt) e)
+  decimals_bad e = rw (digits_untold 3 field e)
 
   pub decimals_good : (n u : ℕ) → some n ≡ digits_in 3 field → 10 ^ (3 - length field) ≡ u → some (n * u) ≡ decimals_in field
   unfolding decimals_in
@@ -153,7 +153,7 @@ module _ (field : List ℕ) where
 -- the thousandths of a coordinate that is cut
 module _ (field front : List ℕ) (m : ℕ) (c : IsCut field front m) where
   pub front_bad : none ≡ digits_in 7 front → none ≡ thousandths_in field
-  front_bad e = sym (c.rest ∙ rw (digits_untold 7 front (lit≤ tt) e))
+  front_bad e = sym (c.rest ∙ rw (digits_untold 7 front e))
 
   pub front_good : (n : ℕ) → some n ≡ digits_in 7 front → number_read (then_some (leb (n * 1000 + m) limit) (n * 1000 + m)) ≡ thousandths_in field
   front_good n e = let d = digits-told 7 front e in chosen (leb (n * 1000 + m) limit) (n * 1000 + m) ∙ sym (c.rest ∙ rw (d.0, d.1))

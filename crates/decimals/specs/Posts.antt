@@ -7,14 +7,18 @@ use Rattle.lines.specs.Pieces.{split}
 use Rattle.millimetres.specs.Millimetres.{limit}
 use Rattle.decimals.specs.Decimals.{is_digit, digits, good_parts, thousandths}
 
+-- the digit that a byte is
+abbrev pub digit_in : ℕ → Option ℕ
+digit_in b = cond (is_digit b) (some (b - 48)) none
+
 -- the number with one digit more, if the byte is one and the number fits
 abbrev pub with_digit : ℕ → ℕ → Option ℕ
 with_digit n b = cond (is_digit b && ltb (n * 10 + (b - 48)) (2 ^ 64)) (some (n * 10 + (b - 48))) none
 
--- the number that at most n digits are, if it fits
+-- the number that at most n digits are
 unfoldable pub digits_in : ℕ → List ℕ → Option ℕ
 unfolding digits number_of
-digits_in n field = cond (digits n field && ltb (number_of field) (2 ^ 64)) (some (number_of field)) none
+digits_in n field = cond (digits n field) (some (number_of field)) none
 
 -- the thousandths that the digits after a point are
 unfoldable pub decimals_in : List ℕ → Option ℕ

@@ -1,31 +1,27 @@
 // Numbers and coordinates in the text of surveyors: read from a field of a line, and put into a lent buffer.
 #![tactic(auto)]
 
-ghost use Rattle.std.specs.Prelude.{◌≡◌, ◌+◌, ◌^◌, ◌<◌, length, MatchOption};
+ghost use Rattle.std.specs.Prelude.{◌≡◌, ◌+◌, ◌^◌, ◌≤◌, ◌<◌, length, MatchOption};
 ghost use Rattle.std.proofs.Math.Option.{none};
 ghost use Rattle.text.specs.Writers.{Puts};
 ghost use Rattle.decimals.specs.Decimals.{number_in, number_read, millimetres_in, coordinate_read, magnitude_text, coordinate_text};
-ghost use Rattle.decimals.specs.Posts.{with_digit, digits_in, decimals_in, thousandths_in, IsCut};
+ghost use Rattle.decimals.specs.Posts.{digit_in, with_digit, digits_in, decimals_in, thousandths_in, IsCut};
 
 use millimetres::Millimetres;
 use text::Writer;
 
 // ---- numbers
 
-// The number with one digit more, if the byte is one and the number still fits.
-fn with_digit(n: u64, byte: u8) -> Option<u64>
-    ensures { number_read result ≡ with_digit n byte }
+// The digit that a byte is.
+fn digit_of(byte: u8) -> Option<u64>
+    ensures { number_read result ≡ digit_in byte }
 {
-    let digit = u64::from(char::from(byte).to_digit(10)?);
-    // up to eighteen digits leave room for one more, and that costs one test in place of two
-    if n < 1_000_000_000_000_000_000 {
-        return Some(n * 10 + digit);
-    }
-    n.checked_mul(10)?.checked_add(digit)
+    Some(u64::from(char::from(byte).to_digit(10)?))
 }
 
-// The number that a field of digits is, if it fits: one digit or more, and at most this many.
+// The number that a field of digits is: one digit or more, and at most this many. Nineteen always fit.
 fn read_digits(field: &[u8], most: usize) -> Option<u64>
+    requires { most ≤ 19 }
     ensures { number_read result ≡ digits_in most field.now }
 {
     if field.is_empty() || field.len() > most {
@@ -33,17 +29,29 @@ fn read_digits(field: &[u8], most: usize) -> Option<u64>
     }
     let mut n = 0;
     for byte in field {
-        n = with_digit(n, *byte)?;
+        n = n * 10 + digit_of(*byte)?;
     }
     Some(n)
 }
 
+// The number with one digit more, if the byte is one and the number still fits.
+fn with_digit(n: u64, byte: u8) -> Option<u64>
+    ensures { number_read result ≡ with_digit n byte }
+{
+    let digit = digit_of(byte)?;
+    n.checked_mul(10)?.checked_add(digit)
+}
+
 // The number that a field is: 1 to 20 digits, at most 2^64 - 1.
-#[tactic(auto, unfolding(crate::specs::Decimals::number_in, crate::specs::Decimals::is_number, crate::specs::Posts::digits_in))]
 pub fn read_number(field: &[u8]) -> Option<u64>
     ensures { number_read result ≡ number_in field.now }
 {
-    read_digits(field, 20)
+    if field.len() != 20 {
+        return read_digits(field, 19);
+    }
+    // the twentieth digit may be one too many
+    let n = read_digits(&field[..19], 19)?;
+    with_digit(n, field[19])
 }
 
 // ---- coordinates

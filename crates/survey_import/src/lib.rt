@@ -79,12 +79,13 @@ fn is_plain(byte: u8) -> bool
     byte != b',' && byte >= 32 && byte <= 126
 }
 
-// Whether what stands after the fourth comma is a description, with no comma more.
+// Whether what stands after the fourth comma is a description, with no comma more. Unlike `all`, the fold goes to the end in any
+// case, so that several bytes are tested at a time.
 #[tactic(auto, unfolding(crate::specs::Marks::is_description))]
 fn is_description(rest: &[u8]) -> bool
     ensures { result ≡ is_description rest.now }
 {
-    rest.len() <= 32 && rest.iter().all(|byte| is_plain(*byte))
+    rest.len() <= 32 && rest.iter().fold(true, |ok, byte| ok & is_plain(*byte))
 }
 
 // The value of the coordinate that a field is.
