@@ -37,7 +37,8 @@ module _ (s : GridSearch) (p : Asked) (f : Filter) (row : Row) where
   unfolding is_on
   row_far e = rw e
 
-  pub row_near : container_near s p (key_in row) ≡ true → (at : Position) (r : Bool) → at ≡ row.at → r ≡ (point_near s p (coords s.ndim at) && passes f (coords s.ndim at)) → r ≡ is_on s p f row
+  pub row_near : container_near s p (key_in row) ≡ true → (at : Position) (r : Bool) → at ≡ row.at
+      → r ≡ (point_near s p (coords s.ndim at) && passes f (coords s.ndim at)) → r ≡ is_on s p f row
   unfolding is_on
   row_near e at r same g = rw e (g ∙ ap (λ (x : Position). point_near s p (coords s.ndim x) && passes f (coords s.ndim x)) same)
 
@@ -79,7 +80,9 @@ module _ {s : GridSearch} {p : Place} {f : Filter} {l : Library} where
     below = λ k h. omega (arith, g.below k h);
     ids-are =
         g.ids-are
-        ∙ sym (ids_next (on s p f) l i ∙ ap (λ (c : Bool). map id_in (keep (on s p f) (rows_of l i)) ++ cond c (get_or l.ids i 0 ∷ []) []) e ∙ append-nil (map id_in (keep (on s p f) (rows_of l i))));
+        ∙ sym (ids_next (on s p f) l i
+        ∙ ap (λ (c : Bool). map id_in (keep (on s p f) (rows_of l i)) ++ cond c (get_or l.ids i 0 ∷ []) []) e
+        ∙ append-nil (map id_in (keep (on s p f) (rows_of l i))));
   }
 
   -- one that counts is marked
@@ -116,7 +119,8 @@ module _ {s : GridSearch} {p : Place} {f : Filter} {l : Library} where
       }
 
   -- rows that do not count are passed at once
-  gathered-beyond : (d : ℕ) {i n : ℕ} {marks : List ℕ} → Gathered s p f l i n marks → ((j : ℕ) → i ≤ j → j < i + d → on s p f (row_at l j) ≡ false) → Gathered s p f l (i + d) n marks
+  gathered-beyond : (d : ℕ) {i n : ℕ} {marks : List ℕ} → Gathered s p f l i n marks
+      → ((j : ℕ) → i ≤ j → j < i + d → on s p f (row_at l j) ≡ false) → Gathered s p f l (i + d) n marks
   gathered-beyond zero {i} {n} {marks} g far = let e : i ≡ i + 0 = omega arith in subst (λ (k : ℕ). Gathered s p f l k n marks) e g
   gathered-beyond (suc d) {i} {n} {marks} g far =
       let e : i + d + 1 ≡ i + suc d = omega arith in
@@ -185,7 +189,8 @@ module _ {s : GridSearch} {p : Place} {f : Filter} {l : Library} where
 
     module _ {r : Reached} {marks : List ℕ} (w : Walked s p f l counts r marks) where
       -- the rows of a near container
-      pub walked_rows : {after : List ℕ} {m : Marked} → Marks s p f l r.row r.end r.marked after m → Walked s p f l counts (record { row = m.row; end = r.end; place = r.place; marked = m.marked }) after
+      pub walked_rows : {after : List ℕ} {m : Marked} → Marks s p f l r.row r.end r.marked after m
+          → Walked s p f l counts (record { row = m.row; end = r.end; place = r.place; marked = m.marked }) after
       walked_rows k = record {
         upto = k.upto;
         end-upto = w.end-upto;
