@@ -3,7 +3,31 @@
 #![tactic(auto)]
 
 ghost use Rattle.std.specs.Prelude.{◌≡◌, ◌+◌, ◌^◌, ◌<◌, [], ◌∷◌, length};
-ghost use Rattle.text.specs.Text.{decimal, entry_text, entries, list_text, refusal};
+ghost use Rattle.text.specs.Text.{decimal, entry_text, entries, list_text, refusal, Put};
+
+// A byte at a place of a buffer, if the buffer goes that far: the place past it.
+fn put_at(buffer: &mut [u8], at: usize, byte: u8) -> usize
+    requires { at + 1 < 2 ^ 64 }
+    ensures { Put (byte ∷ []) buffer.old at buffer.new result }
+{
+    if at < buffer.len() {
+        buffer[at] = byte;
+    }
+    at + 1
+}
+
+// A number in decimal from a place of a buffer on, as far as the buffer goes: the place past it. The place is handed on by itself,
+// since a writer's would be stored and read again for each digit.
+fn put_digits(buffer: &mut [u8], at: usize, n: u64) -> usize
+    requires { at + length (decimal n) < 2 ^ 64 }
+    ensures { Put (decimal n) buffer.old at buffer.new result }
+{
+    if n < 10 {
+        return put_at(buffer, at, b'0' + n as u8);
+    }
+    let next = put_digits(buffer, at, n / 10);
+    put_at(buffer, next, b'0' + (n % 10) as u8)
+}
 
 // A lent buffer, and the place where the next byte goes, within the buffer or not.
 #[derive(Drop)]
@@ -29,10 +53,7 @@ impl<'a> Writer<'a> {
         requires { self.old.at + 1 < 2 ^ 64 }
         ensures { Puts (byte ∷ []) self.old self.new }
     {
-        if self.at < self.buffer.len() {
-            self.buffer[self.at] = byte;
-        }
-        self.at += 1;
+        self.at = put_at(self.buffer, self.at, byte);
     }
 
     // Kept: `write_all` into a slice stops at its end; this one counts on there, as `put_byte` does.
@@ -51,12 +72,7 @@ impl<'a> Writer<'a> {
         requires { self.old.at + length (decimal n) < 2 ^ 64 }
         ensures { Puts (decimal n) self.old self.new }
     {
-        if n < 10 {
-            self.put_byte(b'0' + n as u8)
-        } else {
-            self.put_decimal(n / 10);
-            self.put_byte(b'0' + (n % 10) as u8)
-        }
+        self.at = put_digits(self.buffer, self.at, n);
     }
 
     // The number at index i of several in a row: past the first it has the text between them in front.

@@ -1,0 +1,6 @@
+-- The measure is the number.
+-- Assumes nothing.
+use Rattle.text.proofs.+put_digits.Given as goal
+
+abbrev pub decreases-put_digits : goal.decreases-put_digits
+decreases-put_digits l = l.n
