@@ -93,6 +93,10 @@ digits-below k field e =
     let small = rw zero-add at (below-from 0 0 field (omega arith) d.each) in
     omega (arith, small, pow-le-pow_right {n = 10} (omega arith) d.most)
 
+-- up to nineteen fit
+pub digits_fit : (k : ℕ) (field : List ℕ) → k ≤ 19 → digits k field ≡ true → number_of field < 2 ^ 64
+digits_fit k field h e = omega (arith, digits-below k field e, pow-le-pow_right {n = 10} (omega arith) {i = k} {j = 19} h)
+
 -- ---- the ways out of reading it
 
 module _ (k : ℕ) (field : List ℕ) where

@@ -16,7 +16,7 @@ use Rattle.text.specs.Text.{number_of}
 use Rattle.text.proofs.Laws.{number_more}
 use Rattle.decimals.specs.Decimals.{is_digit, digits, is_number, number_in}
 use Rattle.decimals.specs.Posts.{digits_in, with_digit}
-use Rattle.decimals.proofs.Digits.{all_append, digits-below}
+use Rattle.decimals.proofs.Digits.{all_append, digits_fit}
 
 other_wide : (field : List ℕ) → (length field ≡ 20 → ⊥) → digits 20 field ≡ digits 19 field
 unfolding digits
@@ -33,7 +33,7 @@ pub number_other : (field : List ℕ) → (length field ≡ 20 → ⊥) → digi
 unfolding digits_in number_in is_number
 number_other field f =
     rw (other_wide field f)
-    (by_test (digits 19 field) (λ e. rw (e, lt-ltb (number_of field) (2 ^ 64) (omega (arith, digits-below 19 field e)))) (λ e. rw e))
+    (by_test (digits 19 field) (λ e. rw (e, lt-ltb (number_of field) (2 ^ 64) (digits_fit 19 field (omega arith) e))) (λ e. rw e))
 
 -- nineteen digits and one byte more
 module _ (front : List ℕ) (b : ℕ) (l : length front ≡ 19) where

@@ -42,7 +42,9 @@ fn with_digit(n: u64, byte: u8) -> Option<u64>
     n.checked_mul(10)?.checked_add(digit)
 }
 
-// The number that a field is: 1 to 20 digits, at most 2^64 - 1.
+// The number that a field is: 1 to 20 digits, at most 2^64 - 1. Within the reading of a whole line it would be stored and read again
+// for each digit.
+#[inline(never)]
 pub fn read_number(field: &[u8]) -> Option<u64>
     ensures { number_read result ≡ number_in field.now }
 {

@@ -6,6 +6,7 @@ ghost use Rattle.std.specs.Prelude.{◌≡◌, ◌+◌, ◌^◌, ◌<◌, [], �
 ghost use Rattle.text.specs.Text.{decimal, entry_text, entries, list_text, refusal, Put};
 
 // A byte at a place of a buffer, if the buffer goes that far: the place past it.
+// Kept: a place may lie past the buffer's end, which is how a text is measured.
 fn put_at(buffer: &mut [u8], at: usize, byte: u8) -> usize
     requires { at + 1 < 2 ^ 64 }
     ensures { Put (byte ∷ []) buffer.old at buffer.new result }
@@ -16,8 +17,8 @@ fn put_at(buffer: &mut [u8], at: usize, byte: u8) -> usize
     at + 1
 }
 
-// A number in decimal from a place of a buffer on, as far as the buffer goes: the place past it. The place is handed on by itself,
-// since a writer's would be stored and read again for each digit.
+// A number in decimal from a place of a buffer on, as far as the buffer goes: the place past it.
+// Kept: the place is handed on by itself, since a writer's would be stored and read again for each digit.
 fn put_digits(buffer: &mut [u8], at: usize, n: u64) -> usize
     requires { at + length (decimal n) < 2 ^ 64 }
     ensures { Put (decimal n) buffer.old at buffer.new result }
